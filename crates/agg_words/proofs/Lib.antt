@@ -1,0 +1,7 @@
+pub mod Views
+pub mod Knowing
+pub mod Adding
+pub mod Marking
+pub mod Wiping
+pub mod Seats
+pub mod Clearing

@@ -1,0 +1,11 @@
+pub mod EdgeMap
+pub mod Order
+pub mod EditLemmas
+pub mod BadLemmas
+pub mod GoodLemmas
+pub mod PlainLists
+pub mod SelfChange
+pub mod KeepLemmas
+pub mod PieceLemmas
+pub mod ResidueLemmas
+pub mod RowLemmas

@@ -1,0 +1,40 @@
+-- Numbers modulo 2^64, and their sums.
+use Rattle.std.proofs.Common.{◌≡◌, Bool, ℕ, ℤ, pos, negsuc, suc, ◌+◌, ◌-◌, ◌*◌, ◌%◌, ◌^◌, ◌<◌, ◌+ℤ◌, eqb, List, ◌++◌, filter, sym, ap, ◌∙◌, arith, refl, FitsSigned, w64}
+use Rattle.std.specs.Prelude.{unsigned_abs, sum_by}
+use Rattle.std.specs.Int.{cast_signed, int_wrap}
+use Rattle.std.proofs.lemmas.Int.{ints, int_rem_euclid_is, int_wrap_fits}
+use Rattle.std.proofs.lemmas.List.Elements.{filter-append}
+use Rattle.std.proofs.lemmas.List.Sums.{sum_by-append}
+use Rattle.std.proofs.Math.Nat.{add-mod, mod-lt}
+use Rattle.bolt_base.specs.Residue.{Amount, residue, sum_at}
+
+-- a natural number is the number and some turns of 2^64
+turns : (z : ℤ) → (k : ℕ) × (m : ℕ) × (z +ℤ pos (k * 2 ^ 64) ≡ pos m)
+turns (pos n) = (0, n, omega (arith, ints))
+turns (negsuc n) = (suc n, suc n * (2 ^ 64 - 1), omega (arith, ints))
+
+residue_is : (z : ℤ) (k m : ℕ) → z +ℤ pos (k * 2 ^ 64) ≡ pos m → residue z ≡ m % 2 ^ 64
+residue_is z k m e = ap unsigned_abs (int_rem_euclid_is z (pos (2 ^ 64)) (2 ^ 64) k m (omega arith) refl e)
+
+pub residue-lt : (z : ℤ) → residue z < 2 ^ 64
+residue-lt z = let t = turns z in let is = residue_is z t.0 t.1 t.2 in let below = mod-lt (t.1) {m = 2 ^ 64} (omega arith) in omega arith
+
+pub residue-add : (a b : ℤ) → residue (a +ℤ b) ≡ (residue a + residue b) % 2 ^ 64
+residue-add a b =
+    let s = turns a in
+    let t = turns b in
+    let both : (a +ℤ b) +ℤ pos ((s.0 + t.0) * 2 ^ 64) ≡ pos (s.1 + t.1) = omega (arith, ints, s.2, t.2) in
+    residue_is (a +ℤ b) (s.0 + t.0) (s.1 + t.1) both ∙ add-mod (s.1) (t.1) (2 ^ 64)
+    ∙ ap (λ x. (x + t.1 % 2 ^ 64) % 2 ^ 64) (sym (residue_is a s.0 s.1 s.2)) ∙ ap (λ x. (residue a + x) % 2 ^ 64) (sym (residue_is b t.0 t.1 t.2))
+
+-- a number that fits i64 is its residue, read as two's complement
+pub signed-residue : (z : ℤ) → FitsSigned w64 z → cast_signed w64 (residue z) ≡ z
+unfolding int_wrap
+signed-residue z f = int_wrap_fits w64 z f
+
+pub sum_at-append : (w : ℕ) (a b : List Amount) → sum_at w (a ++ b) ≡ (sum_at w a + sum_at w b) % 2 ^ 64
+sum_at-append w a b =
+    let at : Amount → Bool = λ x. eqb x.word w in
+    let amount : Amount → ℕ = λ x. x.amount in
+    ap (λ xs. sum_by amount xs % 2 ^ 64) (filter-append at a b) ∙ ap (λ n. n % 2 ^ 64) (sum_by-append amount (filter at a) (filter at b))
+    ∙ add-mod (sum_by amount (filter at a)) (sum_by amount (filter at b)) (2 ^ 64)

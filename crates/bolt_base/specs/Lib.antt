@@ -1,0 +1,12 @@
+pub mod Padded
+pub mod Graph
+pub mod GraphCode
+pub mod Plain
+pub mod Edits
+pub mod Change
+pub mod Keep
+pub mod RowTable
+pub mod RowsOf
+pub mod Pieces
+pub mod Residue
+pub mod Laws
