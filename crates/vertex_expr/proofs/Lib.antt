@@ -1,0 +1,10 @@
+pub mod SpanLemmas
+pub mod Between
+pub mod Sound
+pub mod Fits
+pub mod Unmentioned
+pub mod FloorLemmas
+pub mod NodeLemmas
+pub mod Breaks
+pub mod Known
+pub mod SampleLemmas

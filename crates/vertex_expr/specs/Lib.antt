@@ -1,0 +1,16 @@
+pub mod Tree
+pub mod TreeCode
+pub mod Node
+pub mod Names
+pub mod Writable
+pub mod Floor
+pub mod Meaning
+pub mod Mentions
+pub mod Span
+pub mod Box
+pub mod Safe
+pub mod ProgramBounds
+pub mod Fit
+pub mod Leaf
+pub mod Laws
+pub mod Samples
