@@ -1,0 +1,6 @@
+pub mod WeightLemmas
+pub mod TallyLemmas
+pub mod DraftLemmas
+pub mod SoundLemmas
+pub mod ReadLemmas
+pub mod BatchLemmas

@@ -1,0 +1,70 @@
+use Rattle.std.proofs.Common.{◌≡◌, ◌+◌, ◌-◌, ◌∙◌, ap, sym, subst, refl, arith, ℕ, Option, None}
+use Rattle.std.specs.Prelude.{IfNone, MatchOption, take}
+use Rattle.std.specs.Option.{option_map}
+use Rattle.bolt_base.specs.declared.limits.LineCause.{LineCause}
+use Rattle.bolt_io.proofs.TakenLemmas.{slot_told}
+use Rattle.text_lines.specs.Feed.{Feed, ahead, Advances, IsAtEnd, IsFront}
+use Rattle.text_lines.specs.Lines.{seen}
+use Rattle.text_lines.proofs.FeedLemmas.{Advances-none, Advances-on}
+use Rattle.graph_text.specs.declared.graph_lines.GraphLine.{GraphLine}
+use Rattle.graph_text.specs.GraphText.{graph_line, cause, taken_in, read}
+use Rattle.graph_text.specs.DraftCode.{draft_of, IsTallied}
+use Rattle.graph_text.specs.DraftGood.{IsSound}
+use Rattle.graph_text.proofs.SoundLemmas.{sound_line}
+use Rattle.graph_text.proofs.ReadLemmas.{read_ahead, read_good}
+use Rattle.graph_text.proofs.graph.read_lines.Goals as goal
+
+pub lines-init : goal.lines-init
+lines-init g c = record {
+  read = refl;
+  tallied = c.requires.tallied;
+  grows = λ h. h;
+  slot = refl;
+  advances = Advances-none _ _ _ (omega arith);
+  later = omega arith;
+  calm = refl;
+  opened = refl;
+}
+
+pub returns-in_err-found-clause-advances : goal.returns-in_err-found-clause-advances
+returns-in_err-found-clause-advances g c = Advances-on _ _ _ _ _ _ _ (slot_told (g.S.Shelf.told c.args.shelf.now) (g.S.Shelf.opened c.args.shelf.now) c.args.feed.now.slot (g.met.S.Shelf.tells_slots c.args.shelf.now) c.requires.slot) c.lines.invariant.advances c.lines.invariant.later _ c.lines.invariant.slot c.in_err-found.ensures.advances c.in_err-found.ensures.later
+
+pub returns-in_default-clause-advances : goal.returns-in_default-clause-advances
+returns-in_default-clause-advances g c = Advances-on _ _ _ _ _ _ _ (slot_told (g.S.Shelf.told c.args.shelf.now) (g.S.Shelf.opened c.args.shelf.now) c.args.feed.now.slot (g.met.S.Shelf.tells_slots c.args.shelf.now) c.requires.slot) c.lines.invariant.advances c.lines.invariant.later _ c.lines.invariant.slot c.in_ok-found.ensures.advances c.in_ok-found.ensures.later
+
+pub returns-in_err-cause-clause-advances : goal.returns-in_err-cause-clause-advances
+returns-in_err-cause-clause-advances g c = Advances-on _ _ _ _ _ _ _ (slot_told (g.S.Shelf.told c.args.shelf.now) (g.S.Shelf.opened c.args.shelf.now) c.args.feed.now.slot (g.met.S.Shelf.tells_slots c.args.shelf.now) c.requires.slot) c.lines.invariant.advances c.lines.invariant.later _ c.lines.invariant.slot c.in_ok-found.ensures.advances c.in_ok-found.ensures.later
+
+pub returns-in-Some-2-clause-advances : goal.returns-in-Some-2-clause-advances
+returns-in-Some-2-clause-advances g c = Advances-on _ _ _ _ _ _ _ (slot_told (g.S.Shelf.told c.args.shelf.now) (g.S.Shelf.opened c.args.shelf.now) c.args.feed.now.slot (g.met.S.Shelf.tells_slots c.args.shelf.now) c.requires.slot) c.lines.invariant.advances c.lines.invariant.later _ c.lines.invariant.slot c.in_ok-found.ensures.advances c.in_ok-found.ensures.later
+
+pub lines-preserved : goal.lines-preserved
+lines-preserved g c =
+    let l = c.args.limits.now in
+    let d = draft_of c.lines.draft in
+    let f = c.find.new.self in
+    let told = g.S.Shelf.told c.find.new.shelf in
+    let found = c.in-Some.found in
+    let line : GraphLine = graph_line (seen (take found.len f.pending)) in
+    let front = subst (λ r. MatchOption r (IsAtEnd told f) (λ x. IsFront told f x.len x.whole)) c.in-Some.is c.in_ok-found.ensures.line in
+    let line_is : c.graph_line-line.result ≡ line = c.graph_line-line.ensures ∙ ap graph_line c.text.ensures in
+    let good : cause l d line ≡ None = ap (cause l d) (sym line_is) ∙ sym c.in_ok-cause.ensures.cause ∙ c.in_default-2.is in
+    let taken : draft_of c.take_line.new.self ≡ taken_in d line = subst (λ (o : Option LineCause). IfNone o (draft_of c.take_line.new.self ≡ taken_in d c.graph_line-line.result)) c.in_default-2.is c.in_ok-cause.ensures.taken ∙ ap (taken_in d) line_is in
+    let tallied = subst (λ (o : Option LineCause). IfNone o (IsTallied c.take_line.new.self)) c.in_default-2.is c.in_ok-cause.ensures.tallied in
+    let so_far : read_ahead l d told f ≡ option_map (read l (draft_of c.args.draft.now) (c.args.feed.now.lines + 1)) (ahead (g.S.Shelf.told c.args.shelf.now) c.args.feed.now) =
+    ap (λ a. option_map (read l d (f.lines + 1)) a) c.in_ok-found.ensures.ahead ∙ ap (λ n. option_map (read l d (n + 1)) (ahead (g.S.Shelf.told c.lines.shelf) c.lines.feed)) c.in_ok-found.ensures.lines ∙ c.lines.invariant.read in
+    let grown : IsSound l d → IsSound l (draft_of c.take_line.new.self) = λ (h : IsSound l d). subst (IsSound l) (sym taken) (sound_line l d line good h) in
+    let skipped = ap (λ (x : Feed). x.taken) c.skip.ensures in
+    let advances = Advances-on _ _ _ _ _ _ _ (slot_told (g.S.Shelf.told c.args.shelf.now) (g.S.Shelf.opened c.args.shelf.now) c.args.feed.now.slot (g.met.S.Shelf.tells_slots c.args.shelf.now) c.requires.slot) c.lines.invariant.advances c.lines.invariant.later _ c.lines.invariant.slot c.in_ok-found.ensures.advances c.in_ok-found.ensures.later in
+    let early = c.lines.invariant.later in
+    let late = c.in_ok-found.ensures.later in
+    record {
+      read = ap (read_ahead l (draft_of c.take_line.new.self) told) c.skip.ensures ∙ read_good l d told f _ _ so_far found.len found.whole front good (draft_of c.take_line.new.self) taken;
+      tallied = tallied;
+      grows = λ h. grown (c.lines.invariant.grows h);
+      slot = ap (λ (x : Feed). x.slot) c.skip.ensures ∙ c.in_ok-found.ensures.slot ∙ c.lines.invariant.slot;
+      advances = subst (λ (n : ℕ). Advances (g.S.Shelf.told c.args.shelf.now) told c.args.feed.now.slot (n - c.args.feed.now.taken)) (sym skipped) advances;
+      later = omega arith;
+      calm = c.in_ok-found.ensures.calm ∙ c.lines.invariant.calm;
+      opened = c.in_ok-found.ensures.opened ∙ c.lines.invariant.opened;
+    }

@@ -1,0 +1,23 @@
+use Rattle.std.proofs.Common.{◌≡◌, ◌+◌, ◌-◌, ◌≤◌, ◌^◌}
+use Rattle.std.specs.Option.{option_map}
+use Rattle.text_lines.specs.Feed.{ahead, Advances}
+use Rattle.graph_text.specs.GraphText.{read}
+use Rattle.graph_text.specs.DraftCode.{draft_of, IsTallied}
+use Rattle.graph_text.specs.DraftGood.{Grows}
+use Rattle.graph_text.proofs.ReadLemmas.{read_ahead}
+use Rattle.graph_text.proofs.graph.read_lines.Given as goal
+
+abbrev pub invariant-lines : goal.invariant-lines
+invariant-lines g l = record {
+  read : read_ahead l.limits (draft_of l.draft) (g.S.Shelf.told l.shelf) l.feed ≡ option_map (read l.limits (draft_of l.initial.draft) (l.initial.feed.lines + 1)) (ahead (g.S.Shelf.told l.initial.shelf) l.initial.feed);
+  tallied : IsTallied l.draft;
+  grows : Grows l.limits (draft_of l.initial.draft) (draft_of l.draft);
+  slot : l.feed.slot ≡ l.initial.feed.slot;
+  advances : Advances (g.S.Shelf.told l.initial.shelf) (g.S.Shelf.told l.shelf) l.initial.feed.slot (l.feed.taken - l.initial.feed.taken);
+  later : l.initial.feed.taken ≤ l.feed.taken;
+  calm : g.S.Shelf.faults l.shelf ≡ g.S.Shelf.faults l.initial.shelf;
+  opened : g.S.Shelf.opened l.shelf ≡ g.S.Shelf.opened l.initial.shelf;
+}
+
+abbrev pub decreases-lines : goal.decreases-lines
+decreases-lines g l = 2 ^ 40 + 1 - l.feed.lines

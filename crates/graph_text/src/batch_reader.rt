@@ -1,0 +1,251 @@
+// The batch reader.
+ghost use Rattle.std.specs.Prelude.{◌≡◌, ◌+◌, ◌-◌, ◌<◌, ◌≤◌, ◌^◌, ℕ, [], ◌∷◌, is_some, Some, None, Option, length, IfOk, IfErr, OnOk, OnErr, IfSome, IfNone, MatchOption};
+ghost use Rattle.std.specs.Option.{option_map};
+ghost use Rattle.bolt_io.specs.Told.{left};
+ghost use Rattle.text_lines.specs.Feed.{Advances, IsAtEnd, NeedsMore};
+ghost use Rattle.text_lines.specs.Answers.{BlamesShelf, IfTurns};
+ghost use Rattle.graph_text.specs.StreamText.{unopened, begun_at, with_edit as with_edit_of, with_unknown as with_unknown_of, committed as committed_of, unfinished as unfinished_of, batches_from};
+ghost use Rattle.graph_text.specs.BatchCode.{IsPaired, Reader, batches_ahead, with_line};
+
+use crate::bad_line::BadLine;
+use crate::batch_text::{BatchText, OpenBatch};
+use crate::stream_lines::{StreamLine, stream_line};
+use bolt_base::{Edit, EditList, LineCause, LineList, Memory};
+use bolt_io::Shelf;
+use std::alloc::Global;
+use std::marker::Model;
+use text_lines::{FeedError, LineFeed};
+
+/// The most edits of a batch.
+const MOST_EDITS: usize = 1_000_000;
+
+impl OpenBatch {
+    /// A batch of which no line was read.
+    fn new(alloc: Global) -> OpenBatch
+        ensures { result ≡ unopened }
+    {
+        OpenBatch {
+            first_line: None,
+            edits: EditList::new(alloc),
+            lines: LineList::new(alloc),
+            bad: None,
+        }
+    }
+
+    // Notes the first line.
+    fn begin(&mut self, number: u64)
+        ensures { self.new ≡ begun_at self.old number }
+    {
+        if self.first_line.is_none() {
+            self.first_line = Some(number);
+        }
+    }
+
+    // Takes an edit in.
+    #[tactic(auto, unfolding(crate::specs::StreamText::with_edit))]
+    fn take_edit(&mut self, number: u64, edit: Edit) -> Result<(), Memory>
+        requires paired { IsPaired self.old }
+        ensures taken { OnOk result (self.new ≡ with_edit_of self.old number edit) }
+        ensures paired { OnOk result (IsPaired self.new) }
+    {
+        if self.bad.is_some() {
+            return Ok(());
+        }
+        self.begin(number);
+        if self.edits.len() >= MOST_EDITS {
+            self.bad = Some(BadLine {
+                line: number,
+                cause: LineCause::Size,
+            });
+            return Ok(());
+        }
+        self.edits.push(edit)?;
+        self.lines.push(number)?;
+        Ok(())
+    }
+
+    // Takes in a line that has none of the forms.
+    #[tactic(auto, unfolding(crate::specs::StreamText::with_unknown))]
+    fn take_unknown(&mut self, number: u64)
+        requires paired { IsPaired self.old }
+        ensures taken { self.new ≡ with_unknown_of self.old number }
+        ensures paired { IsPaired self.new }
+    {
+        if self.bad.is_some() {
+            return;
+        }
+        self.begin(number);
+        self.bad = Some(BadLine {
+            line: number,
+            cause: LineCause::Syntax,
+        });
+    }
+
+    // Takes in a line that ends no batch.
+    #[tactic(auto, unfolding(crate::specs::BatchCode::with_line))]
+    fn take_line(&mut self, number: u64, line: StreamLine) -> Result<(), Memory>
+        requires paired { IsPaired self.old }
+        ensures taken { OnOk result (self.new ≡ with_line self.old number line) }
+        ensures paired { OnOk result (IsPaired self.new) }
+    {
+        match line {
+            StreamLine::Edit(edit) => {
+                self.take_edit(number, edit)?;
+                Ok(())
+            }
+            StreamLine::Unknown => {
+                self.take_unknown(number);
+                Ok(())
+            }
+            StreamLine::Empty | StreamLine::Commit => Ok(()),
+        }
+    }
+
+    // The batch that a `commit` ends.
+    #[tactic(auto, unfolding(crate::specs::StreamText::committed))]
+    fn commit(self, number: u64) -> BatchText
+        requires paired { IsPaired self }
+        ensures batch { result ≡ committed_of self number }
+        ensures few { length result.edits ≤ 1000000 }
+        ensures paired { length result.lines ≡ length result.edits }
+    {
+        BatchText {
+            first_line: self.first_line.unwrap_or(number),
+            edits: self.edits,
+            lines: self.lines,
+            bad: self.bad,
+        }
+    }
+
+    // The batch that has no end, where one of its lines isn't empty.
+    fn leave_open(self, alloc: Global) -> Option<BatchText>
+        ensures batch { MatchOption result (unfinished_of self.first_line ≡ []) (λ b. unfinished_of self.first_line ≡ b ∷ []) }
+        ensures few { IfSome result (λ b. length b.edits ≤ 1000000) }
+        ensures paired { IfSome result (λ b. length b.lines ≡ length b.edits) }
+    {
+        let first_line = self.first_line?;
+        Some(BatchText {
+            first_line,
+            edits: EditList::new(alloc),
+            lines: LineList::new(alloc),
+            bad: Some(BadLine {
+                line: first_line,
+                cause: LineCause::Unfinished,
+            }),
+        })
+    }
+}
+
+/// The next batch of a feed, or None where no further batch is in the text, which was read to its end.
+fn read_batch<S: Shelf>(
+    alloc: Global,
+    feed: &mut LineFeed,
+    shelf: &mut S,
+) -> Result<Option<BatchText>, FeedError>
+    requires slot { feed.old.slot < S.opened shelf.old }
+    ensures batch { IfOk result (λ r. IfSome r (λ b. batches_ahead (S.told shelf.old) feed.old ≡ option_map (λ rest. b ∷ rest) (batches_ahead (S.told shelf.new) feed.new))) }
+    ensures none { IfOk result (λ r. IfNone r (batches_ahead (S.told shelf.old) feed.old ≡ option_map (λ _. []) (S.told shelf.new))) }
+    ensures end { IfOk result (λ r. IfNone r (IsAtEnd (S.told shelf.new) feed.new)) }
+    ensures few { IfOk result (λ r. IfSome r (λ b. length b.edits ≤ 1000000)) }
+    ensures paired { IfOk result (λ r. IfSome r (λ b. length b.lines ≡ length b.edits)) }
+    ensures slot { feed.new.slot ≡ feed.old.slot }
+    ensures no_fewer_lines { feed.old.lines ≤ feed.new.lines }
+    ensures more_lines { IfOk result (λ r. IfSome r (λ _. feed.old.lines + 1 ≤ feed.new.lines)) }
+    ensures most_lines { feed.new.lines ≤ 2 ^ 40 }
+
+    // How many bytes were taken.
+    ensures advances { Advances (S.told shelf.old) (S.told shelf.new) feed.old.slot (feed.new.taken - feed.old.taken) }
+    ensures later { feed.old.taken ≤ feed.new.taken }
+    ensures most { feed.new.taken ≤ 2 ^ 40 }
+    ensures fewer { IfOk result (λ r. IfNone r (feed.new.taken < 2 ^ 40)) }
+
+    // The errors.
+    ensures turns { IfErr result (IfTurns (λ n. (n ≡ 2 ^ 40) × (feed.new.taken ≡ 2 ^ 40) × NeedsMore feed.new)) }
+    ensures cause { IfErr result (BlamesShelf (S.faults shelf.old) (S.faults shelf.new)) }
+    ensures calm { OnOk result (S.faults shelf.new ≡ S.faults shelf.old) }
+    ensures no_fewer_faults { S.faults shelf.old ≤ S.faults shelf.new }
+    ensures opened { S.opened shelf.new ≡ S.opened shelf.old }
+{
+    let mut open = OpenBatch::new(alloc);
+    'lines: loop {
+        let Some(found) = feed.find(shelf)? else {
+            return Ok(open.leave_open(alloc));
+        };
+        let number = feed.lines() + 1;
+        let line = stream_line(feed.text(found));
+        if let StreamLine::Commit = line {
+            feed.skip(found);
+            return Ok(Some(open.commit(number)));
+        }
+        let Ok(()) = open.take_line(number, line) else {
+            return Err(FeedError::Memory);
+        };
+        feed.skip(found);
+    }
+}
+
+/// The batches of a slot, one by one.
+#[derive(Drop)]
+pub struct BatchReader {
+    alloc: Global,
+    feed: LineFeed,
+    batches: u64,
+}
+
+impl Model for BatchReader {
+    ghost use Rattle.std.specs.Prelude.{◌≤◌};
+    ghost use Rattle.graph_text.specs.BatchCode.{Reader};
+
+    ghost Value = { Reader };
+
+    ghost view = { λ r. record { feed = r.feed; batches = r.batches } };
+
+    ghost invariant = { λ r. r.batches ≤ r.feed.lines };
+}
+
+impl BatchReader {
+    /// A reader of the batches of a slot. It takes no memory.
+    pub fn new(alloc: Global, slot: u32) -> BatchReader
+        ensures { result ≡ record { feed = record { slot = slot; pending = []; lines = 0; taken = 0 }; batches = 0 } }
+    {
+        BatchReader {
+            alloc,
+            feed: LineFeed::new(alloc, slot),
+            batches: 0,
+        }
+    }
+
+    /// The next batch, or None exactly where no further batch is in the text, which was read to its end. After an error the
+    /// batch that was begun is lost.
+    pub fn next<S: Shelf>(&mut self, shelf: &mut S) -> Result<Option<BatchText>, FeedError>
+        requires slot { self.old.feed.slot < S.opened shelf.old }
+        ensures batch { IfOk result (λ r. IfSome r (λ b. batches_ahead (S.told shelf.old) self.old.feed ≡ option_map (λ rest. b ∷ rest) (batches_ahead (S.told shelf.new) self.new.feed))) }
+        ensures none { IfOk result (λ r. IfNone r (batches_ahead (S.told shelf.old) self.old.feed ≡ option_map (λ _. []) (S.told shelf.new))) }
+        ensures end { IfOk result (λ r. IfNone r (IsAtEnd (S.told shelf.new) self.new.feed)) }
+        ensures few { IfOk result (λ r. IfSome r (λ b. length b.edits ≤ 1000000)) }
+        ensures paired { IfOk result (λ r. IfSome r (λ b. length b.lines ≡ length b.edits)) }
+        ensures one_more { IfOk result (λ r. MatchOption r (self.new.batches ≡ self.old.batches) (λ _. self.new.batches ≡ self.old.batches + 1)) }
+        ensures no_more { OnErr result (self.new.batches ≡ self.old.batches) }
+        ensures most_batches { self.new.batches ≤ 2 ^ 40 }
+        ensures slot { self.new.feed.slot ≡ self.old.feed.slot }
+
+        // How many bytes were taken.
+        ensures advances { Advances (S.told shelf.old) (S.told shelf.new) self.old.feed.slot (self.new.feed.taken - self.old.feed.taken) }
+        ensures later { self.old.feed.taken ≤ self.new.feed.taken }
+        ensures most { self.new.feed.taken ≤ 2 ^ 40 }
+        ensures fewer { IfOk result (λ r. IfNone r (self.new.feed.taken < 2 ^ 40)) }
+
+        // The errors.
+        ensures turns { IfErr result (IfTurns (λ n. (n ≡ 2 ^ 40) × (self.new.feed.taken ≡ 2 ^ 40) × NeedsMore self.new.feed)) }
+        ensures cause { IfErr result (BlamesShelf (S.faults shelf.old) (S.faults shelf.new)) }
+        ensures calm { OnOk result (S.faults shelf.new ≡ S.faults shelf.old) }
+        ensures no_fewer_faults { S.faults shelf.old ≤ S.faults shelf.new }
+        ensures opened { S.opened shelf.new ≡ S.opened shelf.old }
+    {
+        let batch = read_batch(self.alloc, &mut self.feed, shelf)?;
+        if batch.is_some() {
+            self.batches += 1;
+        }
+        Ok(batch)
+    }
+}

@@ -1,0 +1,128 @@
+// The graph reader.
+ghost use Rattle.std.specs.Prelude.{◌≡◌, ◌+◌, ◌-◌, ◌<◌, ◌≤◌, ◌^◌, ℕ, pos, Ok, Err, [], length, IfOk, IfErr, OnOk, IfSome};
+ghost use Rattle.bolt_base.specs.Graph.{IsBetween, IsGood};
+ghost use Rattle.bolt_io.specs.Told.{left};
+ghost use Rattle.text_lines.specs.Feed.{Advances, TookBytes, IsAtEnd, ahead};
+ghost use Rattle.graph_text.specs.GraphText.{graph_of, read};
+ghost use Rattle.graph_text.specs.DraftCode.{draft_of, IsTallied};
+ghost use Rattle.graph_text.specs.DraftGood.{IsSound, Grows};
+ghost use Rattle.graph_text.specs.Refusals.{IfLine, IfTurns, BlamesShelf};
+
+use crate::graph_draft::GraphDraft;
+use crate::graph_lines::graph_line;
+use bolt_base::{GraphData, Limits, LineCause, Memory};
+use bolt_io::{Shelf, ShelfFault};
+use std::alloc::Global;
+use text_lines::{FeedError, LineFeed};
+
+/// Why a text gave no graph.
+#[derive(Clone, Copy, Debug, PartialEq, Eq)]
+pub enum GraphRefusal {
+    /// The first bad line, by its number from 1, and why it is bad.
+    Line { number: u64, cause: LineCause },
+    /// The shelf failed, and counted it.
+    Shelf(ShelfFault),
+    /// So many bytes were taken, the most that are, and another read is needed.
+    Turns { taken: u64 },
+    /// Memory was wanting.
+    Memory,
+}
+
+impl From<Memory> for GraphRefusal {
+    ghost use Rattle.std.specs.Prelude.{◌≡◌};
+    ghost use Rattle.graph_text.specs.declared.graph.GraphRefusal.TheVariants.{Memory as NoMemory};
+
+    ghost from_gives = { λ _ e. e ≡ NoMemory };
+
+    fn from(_: Memory) -> Self {
+        GraphRefusal::Memory
+    }
+}
+
+impl From<FeedError> for GraphRefusal {
+    ghost use Rattle.std.specs.Prelude.{◌≡◌};
+    ghost use Rattle.graph_text.specs.Refusals.{refusal_of};
+
+    ghost from_gives = { λ f e. e ≡ refusal_of f };
+
+    fn from(error: FeedError) -> Self {
+        match error {
+            FeedError::Shelf(fault) => GraphRefusal::Shelf(fault),
+            FeedError::Turns { taken } => GraphRefusal::Turns { taken },
+            FeedError::Memory => GraphRefusal::Memory,
+        }
+    }
+}
+
+/// Takes the lines of a text in, up to the first bad one.
+fn read_lines<S: Shelf>(
+    draft: &mut GraphDraft,
+    feed: &mut LineFeed,
+    shelf: &mut S,
+    limits: &Limits,
+) -> Result<(), GraphRefusal>
+    requires slot { feed.old.slot < S.opened shelf.old }
+    requires tallied { IsTallied draft.old }
+    ensures read { OnOk result (IfSome (ahead (S.told shelf.old) feed.old) (λ lines. read limits.now (draft_of draft.old) (feed.old.lines + 1) lines ≡ Ok (draft_of draft.new))) }
+    ensures bad { IfErr result (IfLine (λ number cause. IfSome (ahead (S.told shelf.old) feed.old) (λ lines. read limits.now (draft_of draft.old) (feed.old.lines + 1) lines ≡ Err (record { line = number; cause = cause })))) }
+    ensures made { OnOk result (Grows limits.now (draft_of draft.old) (draft_of draft.new)) }
+    ensures end { OnOk result (IsAtEnd (S.told shelf.new) feed.new) }
+    ensures slot { feed.new.slot ≡ feed.old.slot }
+
+    // How many bytes were taken.
+    ensures advances { Advances (S.told shelf.old) (S.told shelf.new) feed.old.slot (feed.new.taken - feed.old.taken) }
+    ensures later { feed.old.taken ≤ feed.new.taken }
+    ensures fewer { OnOk result (feed.new.taken < 2 ^ 40) }
+
+    // The errors.
+    ensures turns { IfErr result (IfTurns (λ n. (n ≡ 2 ^ 40) × (feed.new.taken ≡ 2 ^ 40))) }
+    ensures cause { IfErr result (BlamesShelf (S.faults shelf.old) (S.faults shelf.new)) }
+    ensures calm { OnOk result (S.faults shelf.new ≡ S.faults shelf.old) }
+    ensures no_fewer_faults { S.faults shelf.old ≤ S.faults shelf.new }
+    ensures opened { S.opened shelf.new ≡ S.opened shelf.old }
+{
+    'lines: loop {
+        let Some(found) = feed.find(shelf)? else {
+            return Ok(());
+        };
+        let line = graph_line(feed.text(found));
+        if let Some(cause) = draft.take_line(limits, line)? {
+            return Err(GraphRefusal::Line {
+                number: feed.lines() + 1,
+                cause,
+            });
+        }
+        feed.skip(found);
+    }
+}
+
+/// The graph of a slot's text, read up to its first bad line.
+pub fn read_graph<S: Shelf>(
+    alloc: Global,
+    shelf: &mut S,
+    slot: u32,
+    limits: &Limits,
+) -> Result<GraphData, GraphRefusal>
+    requires slot { slot < S.opened shelf.old }
+    ensures graph { IfOk result (λ g. IfSome (S.told shelf.old) (λ t. graph_of limits.now (left t slot) ≡ Ok g)) }
+    ensures line { IfErr result (IfLine (λ number cause. IfSome (S.told shelf.old) (λ t. graph_of limits.now (left t slot) ≡ Err (record { line = number; cause = cause })))) }
+    ensures good { IfOk result (λ g. IsBetween limits.now.attr_lo limits.now.attr_hi (pos 0) → IsGood limits.now g) }
+
+    // The text was read to its end, or up to the limit.
+    ensures end { OnOk result (IfSome (S.told shelf.new) (λ t. left t slot ≡ [])) }
+    ensures short { OnOk result (IfSome (S.told shelf.old) (λ t. length (left t slot) < 2 ^ 40)) }
+    ensures turns { IfErr result (IfTurns (λ n. (n ≡ 2 ^ 40) × IfSome (S.told shelf.old) (λ t. 2 ^ 40 ≤ length (left t slot)))) }
+
+    // The shelf: bytes of the slot were taken, and nothing else changed.
+    ensures took { TookBytes (S.told shelf.old) (S.told shelf.new) slot }
+    ensures cause { IfErr result (BlamesShelf (S.faults shelf.old) (S.faults shelf.new)) }
+    ensures calm { OnOk result (S.faults shelf.new ≡ S.faults shelf.old) }
+    ensures no_fewer_faults { S.faults shelf.old ≤ S.faults shelf.new }
+    ensures opened { S.opened shelf.new ≡ S.opened shelf.old }
+{
+    let mut feed = LineFeed::new(alloc, slot);
+    let mut draft = GraphDraft::new(alloc);
+    read_lines(&mut draft, &mut feed, shelf, limits)?;
+    let graph = draft.finish(alloc)?;
+    Ok(graph)
+}

@@ -1,0 +1,230 @@
+-- What stands ahead of a feed.
+use Rattle.std.proofs.Common.{◌≡◌, ℕ, ◌+◌, ◌-◌, ◌<◌, ◌≤◌, min, List, [], ◌∷◌, ◌++◌, length, get_or, take, drop, All, refl, sym, ◌∙◌, ap, subst, arith, length-drop, take-append-drop, append_assoc, Bool, true, false, Option, Some, None}
+use Rattle.std.specs.Prelude.{slice_range, nat_lt, IfSome}
+use Rattle.std.proofs.lemmas.List.{take-take, take_all, length-take, length-take-le, take-append-le}
+use Rattle.std.proofs.Math.Seq.{take-append-add}
+use Rattle.std.proofs.lemmas.Bool.Decides.{nat_tests}
+use borrow.Rule.Slice.PartMut.{put_mid, post_of}
+use Rattle.std.specs.Option.{option_map}
+use Rattle.std.proofs.lemmas.List.{append-nil, drop_all, drop-take, drop-drop}
+use Rattle.std.proofs.lemmas.List.Elements.{All-take}
+use Rattle.std.proofs.Math.ListN.{length-set}
+use Rattle.bolt_io.specs.Told.{Told, left, taken_from, GivesNext}
+use Rattle.bolt_io.proofs.TakenLemmas.{taken_from-none, taken_from-twice, left-taken_from}
+use Rattle.std.specs.List.{copy_within, prefix_len}
+use Rattle.std.proofs.lemmas.List.Edits.{take-paste}
+use Rattle.text_lines.specs.Lines.{is_lf, is_no_lf, without_cr, seen, seen_lines}
+use Rattle.text_lines.specs.Feed.{Feed, ahead, answered, NeedsMore, IsAtEnd, Advances, IsFront, EndsLine, ReadsOn}
+use Rattle.text_lines.proofs.LineLemmas.{lines_front, lines_last, lines_cut}
+use Rattle.text_lines.proofs.WordLemmas.{none_before, passes_next}
+
+-- the bytes of a block from a place on, moved to its front
+pub front_moved : (block new : List ℕ) (at end n : ℕ) → at ≤ end → end ≤ length block → n ≡ min (end - at) 257 → new ≡ copy_within block at (at + n) 0 → take n new ≡ take 257 (slice_range block at end)
+front_moved block new at end n begins within is after =
+    let m = at + n - at in
+    let same : m ≡ n = omega arith in
+    let size : m ≤ length (drop at block) = omega (arith, length-drop at block) in
+    let moved : take (0 + m) new ≡ take m (drop at block) = ap (take (0 + m)) after ∙ take-paste block 0 (drop at block) m (omega arith) size in
+    let zero_front : 0 + m ≡ n = omega arith in
+    ap (λ (k : ℕ). take k new) (sym zero_front) ∙ moved ∙ ap (λ (k : ℕ). take k (drop at block)) same ∙ cut_front (drop at block) (end - at) n is
+  where
+    cut_front : (xs : List ℕ) (len n : ℕ) → n ≡ min len 257 → take n xs ≡ take 257 (take len xs)
+    cut_front xs len n is = pick (nat_lt len 257) refl
+      where
+        pick : (b : Bool) → nat_lt len 257 ≡ b → take n xs ≡ take 257 (take len xs)
+        pick true lt =
+            let less : len < 257 = grind (arith, nat_tests) in
+            let e : n ≡ len = omega arith in
+            ap (λ (k : ℕ). take k xs) e ∙ sym (take_all 257 (take len xs) (omega (arith, length-take len xs)))
+        pick false lt =
+            let more : 257 ≤ len = grind (arith, nat_tests) in
+            let e : n ≡ 257 = omega arith in
+            ap (λ (k : ℕ). take k xs) e ∙ sym (take-take 257 len xs more)
+
+-- what a read put into a part of a block
+pub read_in : (told : Option Told) (slot at k n : ℕ) (block buf : List ℕ) → at ≤ length block → n ≤ length buf → IfSome told (λ t. GivesNext (left t slot) n buf) → IfSome told (λ t. take (at + n) (put_mid at k block buf) ≡ take at block ++ take n (left t slot))
+read_in None slot at k n block buf inside within gives = tt
+read_in (Some t) slot at k n block buf inside within gives =
+    let size : length (take at block) ≡ at = length-take-le at block inside in
+    let rest = post_of at k block in
+    let front : take (length (take at block) + n) (take at block ++ (buf ++ rest)) ≡ take at block ++ take n (buf ++ rest) = take-append-add (take at block) (buf ++ rest) n in
+    ap (λ (j : ℕ). take (j + n) (take at block ++ (buf ++ rest))) (sym size) ∙ front ∙ ap (λ (l : List ℕ). take at block ++ l) (take-append-le n buf rest within ∙ gives.bytes)
+
+is_ten : (b : ℕ) → is_lf b ≡ true → b ≡ 10
+is_ten b is = grind (arith, nat_tests)
+
+-- an LF in a text ends a line
+pub ends_line : (text : List ℕ) (end len : ℕ) → end ≡ prefix_len is_no_lf text → end < length text → len ≤ end → take len (take end text) ≡ without_cr (take end text) → EndsLine text len (end + 1)
+ends_line text end len is less inside line =
+    let back : end + 1 - 1 ≡ end = omega arith in
+    let short : take len (take end text) ≡ take len text = take-take len end text inside in
+    let before : All (λ b. is_lf b ≡ false) (take end text) = subst (λ (k : ℕ). All (λ b. is_lf b ≡ false) (take k text)) (sym is) (none_before is_lf text) in
+    let here : is_lf (get_or text end 0) ≡ true = ap (λ (k : ℕ). is_lf (get_or text k 0)) is ∙ passes_next is_lf text (omega arith) in
+    record {
+      some = omega arith;
+      within = omega arith;
+      inside = omega arith;
+      none_before = subst (λ (k : ℕ). All (λ b. is_lf b ≡ false) (take k text)) (sym back) before;
+      here = ap (λ (k : ℕ). get_or text k 0) back ∙ is_ten (get_or text end 0) here;
+      line = sym short ∙ line ∙ ap (λ (k : ℕ). without_cr (take k text)) (sym back);
+    }
+
+-- no LF in a text
+pub no_end : (text : List ℕ) → prefix_len is_no_lf text ≡ length text → All (λ b. is_lf b ≡ false) text
+no_end text is = subst (λ (l : List ℕ). All (λ b. is_lf b ≡ false) l) (take_all (prefix_len is_no_lf text) text (omega arith)) (none_before is_lf text)
+
+module _ (t : Told) (slot n : ℕ) (below : slot < length t.slots) where
+  -- what was taken stands before what is left
+  taken_then : (xs : List ℕ) → (xs ++ take n (left t slot)) ++ left (taken_from slot n t) slot ≡ xs ++ left t slot
+  taken_then xs =
+      ap (λ (l : List ℕ). (xs ++ take n (left t slot)) ++ l) (left-taken_from slot t n 0 below)
+      ∙ append_assoc xs (take n (left t slot)) (drop n (left t slot))
+      ∙ ap (λ (l : List ℕ). xs ++ l) (take-append-drop n (left t slot))
+
+-- a read that ends no line leaves what is ahead
+pub ahead_read : (old new : Option Told) (f g : Feed) (n : ℕ) → NeedsMore f → g.slot ≡ f.slot → ReadsOn old new f.slot n → IfSome old (λ t. f.slot < length t.slots)
+    → IfSome old (λ t. g.pending ≡ take 257 f.pending ++ take n (left t f.slot)) → ahead new g ≡ ahead old f
+ahead_read None new f g n none same reads below bytes = ap (λ (o : Option Told). ahead o g) reads.told
+ahead_read (Some t) new f g n none same reads below bytes =
+    ap (λ (o : Option Told). ahead o g) reads.told
+    ∙ ap (λ (s : ℕ). Some (seen_lines (g.pending ++ left (taken_from f.slot n t) s))) same
+    ∙ ap (λ (l : List ℕ). Some (seen_lines (l ++ left (taken_from f.slot n t) f.slot))) bytes
+    ∙ ap (λ (l : List ℕ). Some (seen_lines l)) (taken_then t f.slot n below (take 257 f.pending))
+    ∙ ap (λ (l : List (Option (List ℕ))). Some l) (lines_cut f.pending (left t f.slot) none)
+
+-- and so does one that fails
+pub ahead_kept : (told : Option Told) (f : Feed) → NeedsMore f → ahead told (record f { pending = take 257 f.pending }) ≡ ahead told f
+ahead_kept None f none = refl
+ahead_kept (Some t) f none = ap (λ (l : List (Option (List ℕ))). Some l) (lines_cut f.pending (left t f.slot) none)
+
+-- before the first read
+pub Advances-none : (told : Option Told) (slot n : ℕ) → n ≡ 0 → Advances told told slot n
+Advances-none None slot n e = record { told = refl; within = tt }
+Advances-none (Some t) slot n e = record {
+  told = ap (λ (x : Told). Some x) (sym (taken_from-none slot t)) ∙ ap (λ (k : ℕ). Some (taken_from slot k t)) (sym e);
+  within = omega arith;
+}
+
+-- bytes more
+pub Advances-more : (a b c : Option Told) (slot m n k : ℕ) → IfSome a (λ t. slot < length t.slots) → Advances a b slot m → Advances b c slot n → k ≡ m + n → Advances a c slot k
+Advances-more None b c slot m n k below so_far more e = record { told = more.told ∙ ap (option_map (taken_from slot n)) so_far.told; within = tt }
+Advances-more (Some t) b c slot m n k below so_far more e =
+    let mid = taken_from slot m t in
+    let P : Option Told → Type 0 = λ o. IfSome o (λ x. n ≤ length (left x slot)) in
+    let now : n ≤ length (left mid slot) = subst P so_far.told more.within in
+    let size : length (left mid slot) ≡ length (left t slot) - m = ap length (left-taken_from slot t m 0 below) ∙ length-drop m (left t slot) in
+    let all : m ≤ length (left t slot) = so_far.within in
+    record {
+      told = more.told ∙ ap (option_map (taken_from slot n)) so_far.told ∙ ap (λ (x : Told). Some x) (taken_from-twice slot t m n below) ∙ ap (λ (j : ℕ). Some (taken_from slot j t)) (sym e);
+      within = omega arith;
+    }
+
+-- what was taken before a call and in it
+pub Advances-on : (a b c : Option Told) (slot first before after : ℕ) → IfSome a (λ t. slot < length t.slots) → Advances a b slot (before - first) → first ≤ before → (now : ℕ) → now ≡ slot → Advances b c now (after - before) → before ≤ after → Advances a c slot (after - first)
+Advances-on a b c slot first before after below so_far early now same more late =
+    Advances-more a b c slot (before - first) (after - before) (after - first) below so_far (subst (λ (s : ℕ). Advances b c s (after - before)) same more) (omega arith)
+
+-- one read more
+pub Advances-then : (a b c : Option Told) (slot m n k : ℕ) → IfSome a (λ t. slot < length t.slots) → Advances a b slot m → ReadsOn b c slot n → k ≡ m + n → Advances a c slot k
+Advances-then a b c slot m n k below so_far reads e = Advances-more a b c slot m n k below so_far (record { told = reads.told; within = reads.within }) e
+
+-- a slot that was opened stays one
+pub below_later : (a b : Option Told) (slot n : ℕ) → Advances a b slot n → IfSome a (λ t. slot < length t.slots) → IfSome b (λ t. slot < length t.slots)
+below_later None b slot n so_far below = subst (λ (o : Option Told). IfSome o (λ t. slot < length t.slots)) (sym so_far.told) tt
+below_later (Some t) b slot n so_far below =
+    subst (λ (o : Option Told). IfSome o (λ x. slot < length x.slots)) (sym so_far.told) (subst (λ (k : ℕ). slot < k) (sym (length-set t.slots slot _)) below)
+
+-- the first line is found where an end stands
+pub front_found : (told : Option Told) (f : Feed) (len whole : ℕ) → EndsLine f.pending len whole → IsFront told f len whole
+front_found told f len whole ends = record {
+  some = ends.some;
+  within = ends.within;
+  inside = ends.inside;
+  reads = each told;
+}
+  where
+    each : (told : Option Told) → IfSome told (λ t. seen_lines (f.pending ++ left t f.slot) ≡ seen (take len f.pending) ∷ seen_lines (drop whole f.pending ++ left t f.slot))
+    each None = tt
+    each (Some t) = lines_front f.pending (left t f.slot) len whole ends
+
+-- the bytes of the last line
+pub record IsRest (told : Option Told) (g : Feed) : Type 0 where
+  pub ended : IfSome told (λ t. left t g.slot ≡ [])
+  pub none : IfSome told (λ _. NeedsMore g)
+
+pub rest_read : (old new : Option Told) (f g : Feed) (n : ℕ) → n ≡ 0 → NeedsMore f → g.slot ≡ f.slot → ReadsOn old new f.slot n → IfSome old (λ t. f.slot < length t.slots)
+    → IfSome old (λ t. g.pending ≡ take 257 f.pending ++ take n (left t f.slot)) → IsRest new g
+rest_read None new f g n e none same reads below bytes = subst (λ (o : Option Told). IsRest o g) (sym reads.told) (record { ended = tt; none = tt })
+rest_read (Some t) new f g n e none same reads below bytes =
+    let nothing : left (taken_from f.slot n t) g.slot ≡ [] =
+    ap (λ (s : ℕ). left (taken_from f.slot n t) s) same ∙ left-taken_from f.slot t n 0 below ∙ ap (λ (k : ℕ). drop k (left t f.slot)) e ∙ reads.at_end e in
+    let front : g.pending ≡ take 257 f.pending = bytes ∙ ap (λ (k : ℕ). take 257 f.pending ++ take k (left t f.slot)) e ∙ append-nil (take 257 f.pending) in
+    subst (λ (o : Option Told). IsRest o g) (sym reads.told) (record {
+      ended = nothing;
+      none = subst (λ (l : List ℕ). All (λ b. is_lf b ≡ false) l) (sym front) (All-take (λ b. is_lf b ≡ false) 257 f.pending none);
+    })
+
+pub front_last : (told : Option Told) (g : Feed) (len whole : ℕ) → IsRest told g → 0 < whole → len ≡ whole → whole ≡ length g.pending → IsFront told g len whole
+front_last told g len whole rest some e all = record {
+  some = some;
+  within = omega arith;
+  inside = omega arith;
+  reads = each told rest;
+}
+  where
+    each : (told : Option Told) → IsRest told g → IfSome told (λ t. seen_lines (g.pending ++ left t g.slot) ≡ seen (take len g.pending) ∷ seen_lines (drop whole g.pending ++ left t g.slot))
+    each None rest = tt
+    each (Some t) rest =
+        let p = g.pending in
+        let nothing : drop whole p ++ left t g.slot ≡ [] = ap (λ (l : List ℕ). l ++ left t g.slot) (drop_all whole p (omega arith)) ∙ rest.ended in
+        ap (λ (l : List ℕ). seen_lines (p ++ l)) rest.ended
+        ∙ ap seen_lines (append-nil p)
+        ∙ lines_last p rest.none (omega arith)
+        ∙ ap (λ (l : List ℕ). seen l ∷ []) (sym (take_all len p (omega arith)))
+        ∙ ap (λ (l : List ℕ). seen (take len p) ∷ seen_lines l) (sym nothing)
+
+pub rest_ended : (told : Option Told) (g : Feed) → IsRest told g → g.pending ≡ [] → IsAtEnd told g
+rest_ended told g rest none = (none, rest.ended)
+
+-- where a line ends, one does
+pub needs_none : (f : Feed) (len whole : ℕ) → EndsLine f.pending len whole → NeedsMore f → ⊥
+needs_none f len whole ends none =
+    let some = ends.some in
+    let within = ends.within in
+    let off : is_lf (get_or f.pending (whole - 1) 0) ≡ false = none (whole - 1) 0 (omega arith) in
+    let on : get_or f.pending (whole - 1) 0 ≡ 10 = ends.here in
+    no_ten _ on off
+  where
+    no_ten : (b : ℕ) → b ≡ 10 → is_lf b ≡ false → ⊥
+    no_ten b e off = grind (arith, nat_tests)
+
+-- a line that was answered leaves the bytes behind it
+pub answered_is : (block : List ℕ) (at end whole : ℕ) → whole ≤ end - at → slice_range block (at + whole) end ≡ drop whole (slice_range block at end)
+answered_is block at end whole within =
+    let rest = end - (at + whole) in
+    let size : end - at ≡ whole + rest = omega arith in
+    sym (ap (λ (k : ℕ). drop whole (take k (drop at block))) size ∙ drop-take whole rest (drop at block) ∙ ap (take rest) (drop-drop whole at block))
+
+pub length_pending : (block : List ℕ) (at end : ℕ) → end ≤ length block → length (slice_range block at end) ≡ end - at
+length_pending block at end within = length-take-le (end - at) (drop at block) (omega (arith, length-drop at block))
+
+-- at the end nothing is ahead
+pub ahead_end : (told : Option Told) (f : Feed) → IsAtEnd told f → ahead told f ≡ option_map (λ _. []) told
+ahead_end None f end = refl
+ahead_end (Some t) f end =
+    ap (λ (l : List ℕ). Some (seen_lines (l ++ left t f.slot))) end.0 ∙ ap (λ (l : List ℕ). Some (seen_lines l)) end.1
+
+-- a line in front, and those behind it
+pub ahead_front : (told : Option Told) (f : Feed) (len whole : ℕ) → IsFront told f len whole → ahead told f ≡ option_map (λ rest. seen (take len f.pending) ∷ rest) (ahead told (answered whole f))
+ahead_front None f len whole front = refl
+ahead_front (Some t) f len whole front = ap (λ (l : List (Option (List ℕ))). Some l) front.reads
+
+-- where a feed is at its end, all that the slot had was taken
+pub taken_all : (a b : Option Told) (slot n : ℕ) → IfSome a (λ t. slot < length t.slots) → Advances a b slot n → IfSome b (λ t. left t slot ≡ []) → IfSome a (λ t. length (left t slot) ≡ n)
+taken_all None b slot n below so_far end = tt
+taken_all (Some t) b slot n below so_far end =
+    let P : Option Told → Type 0 = λ o. IfSome o (λ x. left x slot ≡ []) in
+    let now : left (taken_from slot n t) slot ≡ [] = subst P so_far.told end in
+    let size : length (drop n (left t slot)) ≡ 0 = ap length (sym (left-taken_from slot t n 0 below) ∙ now) in
+    let within : n ≤ length (left t slot) = so_far.within in
+    omega (arith, length-drop n (left t slot))

@@ -1,0 +1,14 @@
+-- Numbers digit by digit.
+use Rattle.std.proofs.Common.{◌≡◌, ℕ, ◌+◌, ◌-◌, ◌*◌, ◌^◌, ◌<◌, min, List, length, get_or, take, arith}
+use Rattle.std.proofs.lemmas.List.Sums.{fold_more}
+use Rattle.text_lines.specs.Numbers.{decimal_value}
+
+abbrev greatest : ℕ
+greatest = 2 ^ 64 - 1
+
+-- a number that is capped at each step is the capped number
+pub capped_step : (n d : ℕ) → min (min (min n (2 ^ 64 - 1) * 10) (2 ^ 64 - 1) + d) (2 ^ 64 - 1) ≡ min (n * 10 + d) (2 ^ 64 - 1)
+capped_step n d = omega arith
+
+pub decimal_value-more : (word : List ℕ) (i : ℕ) → i < length word → decimal_value (take (i + 1) word) ≡ decimal_value (take i word) * 10 + (get_or word i 0 - 48)
+decimal_value-more word i l = fold_more (λ n b. n * 10 + (b - 48)) 0 word i 0 l

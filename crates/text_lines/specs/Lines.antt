@@ -1,0 +1,34 @@
+-- The lines of a text.
+use Rattle.std.specs.Prelude.{ℕ, ◌-◌, ◌==◌, Bool, not, nat_lt, if◌then◌else◌, List, [], ◌∷◌, map, length, take, slice_index, Option, Some, None}
+use Rattle.std.specs.List.{slice_split}
+
+abbrev pub is_lf : ℕ → Bool
+is_lf b = b == 10
+
+abbrev pub is_no_lf : ℕ → Bool
+is_no_lf b = not (is_lf b)
+
+-- a CR directly before the LF is no part of the line
+abbrev pub without_cr : List ℕ → List ℕ
+without_cr line = if slice_index line (length line - 1) == 13 then take (length line - 1) line else line
+
+-- The lines of what stands between the LFs: an LF ends each part but the last one, and nothing after the last LF is no line
+abbrev pub lines_of : List (List ℕ) → List (List ℕ)
+lines_of [] = []
+lines_of (part ∷ []) = if length part == 0 then [] else part ∷ []
+lines_of (part ∷ next ∷ parts) = without_cr part ∷ lines_of (next ∷ parts)
+
+-- the lines of a text, each without its end
+abbrev pub lines : List ℕ → List (List ℕ)
+lines text = lines_of (slice_split is_lf text)
+
+-- a line, its comment included, has at most 255 bytes
+abbrev pub is_long : List ℕ → Bool
+is_long line = nat_lt 255 (length line)
+
+-- what counts of a line: its bytes, and of a long line only that it is one
+abbrev pub seen : List ℕ → Option (List ℕ)
+seen line = if is_long line then None else Some line
+
+abbrev pub seen_lines : List ℕ → List (Option (List ℕ))
+seen_lines text = map seen (lines text)

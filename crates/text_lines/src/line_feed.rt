@@ -1,0 +1,317 @@
+// A feed of lines over a slot of a shelf.
+ghost use Rattle.std.specs.Prelude.{◌≡◌, ℕ, ◌+◌, ◌-◌, ◌<◌, ◌≤◌, ◌^◌, [], ◌∷◌, ◌++◌, List, length, take, drop, slice_range, IfOk, IfErr, OnOk, OnErr, IfSome, IfNone, MatchOption, vec_len};
+ghost use Rattle.std.specs.List.{prefix_len};
+ghost use Rattle.std.specs.Option.{option_map};
+ghost use Rattle.bolt_io.specs.Told.{left};
+ghost use Rattle.text_lines.specs.Lines.{is_no_lf, without_cr, seen};
+ghost use Rattle.text_lines.specs.Feed.{Feed, ahead, IsAtEnd, NeedsMore, Advances, IsFront, EndsLine, answered, ReadsOn};
+ghost use Rattle.text_lines.specs.Answers.{told_line, number_of, BlamesShelf, IfTurns};
+
+use crate::feed::{FeedError, Line};
+use bolt_base::{Bytes, Items, Memory};
+use bolt_io::{MOST_BYTES, Shelf, ShelfFault};
+use std::alloc::{AllocError, Global};
+use std::marker::Model;
+
+/// How many bytes a read asks for at most.
+const BLOCK: usize = 65536;
+
+/// So many bytes without an LF are a long line, whatever follows them.
+const CUT: usize = 257;
+
+/// The line in front of a feed: how many bytes it has, and how many with its end.
+#[derive(Clone, Copy, Debug)]
+pub struct Found {
+    pub len: usize,
+    pub whole: usize,
+}
+
+/// The lines of a slot, however its bytes are cut by reads. A long line is dropped as it passes.
+#[derive(Drop)]
+pub struct LineFeed {
+    alloc: Global,
+    slot: u32,
+    block: Vec<u8>,
+    at: usize,
+    end: usize,
+    lines: u64,
+    taken: u64,
+}
+
+impl Model for LineFeed {
+    ghost use Rattle.std.specs.Prelude.{slice_range, length};
+    ghost use Rattle.text_lines.specs.Feed.{Feed, IsKept};
+
+    ghost Value = { Feed };
+
+    ghost view = { λ f. record { slot = f.slot; pending = slice_range f.block.items f.at f.end; lines = f.lines; taken = f.taken } };
+
+    ghost invariant = { λ f. IsKept f.at f.end (length f.block.items) f.lines f.taken };
+}
+
+/// Moves a line that has no end yet to the front, as far as it counts, and answers how many bytes that are.
+fn move_front(block: &mut [u8], at: usize, end: usize) -> usize
+    requires begins { at ≤ end }
+    requires within { end ≤ length block.old }
+    ensures front { take result block.new ≡ take 257 (slice_range block.old at end) }
+    ensures short { result ≤ 257 }
+    ensures less { result ≤ end - at }
+{
+    let n = (end - at).min(CUT);
+    block.copy_within(at..at + n, 0);
+    n
+}
+
+/// Reads into a block from a place on.
+fn read_at<S: Shelf>(
+    shelf: &mut S,
+    slot: u32,
+    block: &mut [u8],
+    at: usize,
+    room: usize,
+) -> Result<usize, ShelfFault>
+    requires slot { slot < S.opened shelf.old }
+    requires room { 0 < room }
+    requires within { at + room ≤ length block.old }
+    ensures size { length block.new ≡ length block.old }
+    ensures within { IfOk result (λ n. n ≤ room) }
+    ensures front { take at block.new ≡ take at block.old }
+    ensures bytes { IfOk result (λ n. IfSome (S.told shelf.old) (λ t. take (at + n) block.new ≡ take at block.old ++ take n (left t slot))) }
+    ensures reads { IfOk result (λ n. ReadsOn (S.told shelf.old) (S.told shelf.new) slot n) }
+    ensures untouched { OnErr result (S.told shelf.new ≡ S.told shelf.old) }
+    ensures opened { S.opened shelf.new ≡ S.opened shelf.old }
+    ensures cause { IfErr result (λ fault. BlamesShelf (S.faults shelf.old) (S.faults shelf.new) (FeedError.Shelf fault)) }
+    ensures calm { OnOk result (S.faults shelf.new ≡ S.faults shelf.old) }
+    ensures later { S.faults shelf.old ≤ S.faults shelf.new }
+{
+    let piece = &mut block[at..at + room];
+    match shelf.read(slot, piece) {
+        Ok(n) => Ok(n),
+        Err(fault) => Err(fault),
+    }
+}
+
+/// Makes a block as long as it has to be, with the bytes that it has in front.
+fn grow_block(block: &mut Vec<u8>) -> Result<(), AllocError>
+    ensures size { OnOk result (65536 ≤ vec_len block.new) }
+    ensures front { (k : ℕ) → k ≤ vec_len block.old → take k block.new.items ≡ take k block.old.items }
+    ensures no_less { vec_len block.old ≤ vec_len block.new }
+{
+    if block.len() >= BLOCK {
+        return Ok(());
+    }
+    block.resize(BLOCK, 0)?;
+    Ok(())
+}
+
+/// How many bytes stand before the first LF.
+fn line_end(text: &[u8]) -> usize
+    ensures value { result ≡ prefix_len is_no_lf text.now }
+    ensures within { result ≤ length text.now }
+{
+    text.iter().take_while(|b| !(**b == b'\n')).count()
+}
+
+/// How many bytes a line has that an LF ends.
+fn line_len(line: &[u8]) -> usize
+    ensures line { take result line.now ≡ without_cr line.now }
+    ensures within { result ≤ length line.now }
+{
+    if !line.is_empty() && line[line.len() - 1] == b'\r' {
+        line.len() - 1
+    } else {
+        line.len()
+    }
+}
+
+/// A list of these bytes.
+fn copied(alloc: Global, bytes: &[u8]) -> Result<Bytes, Memory>
+    ensures { IfOk result (λ items. items ≡ bytes.now) }
+{
+    let mut items = Items::new(alloc);
+    for b in bytes {
+        items.push(*b)?;
+    }
+    Ok(items)
+}
+
+impl LineFeed {
+    /// A feed of the lines of a slot. It takes no memory.
+    pub fn new(alloc: Global, slot: u32) -> LineFeed
+        ensures { result ≡ record { slot = slot; pending = []; lines = 0; taken = 0 } }
+    {
+        LineFeed {
+            alloc,
+            slot,
+            block: Vec::new(alloc),
+            at: 0,
+            end: 0,
+            lines: 0,
+            taken: 0,
+        }
+    }
+
+    /// How many lines were answered.
+    pub fn lines(&self) -> u64
+        ensures value { result ≡ self.now.lines }
+        ensures most { result + length self.now.pending ≤ 2 ^ 40 }
+    {
+        self.lines
+    }
+
+    // The line in front, where its end was taken.
+    fn ended_line(&self) -> Option<Found>
+        ensures line { MatchOption result (NeedsMore self.now) (λ f. EndsLine self.now.pending f.len f.whole) }
+        ensures most { self.now.taken ≤ 2 ^ 40 }
+        ensures most_lines { self.now.lines ≤ 2 ^ 40 }
+    {
+        let front = &self.block[self.at..self.end];
+        let end = line_end(front);
+        if end == front.len() {
+            return None;
+        }
+        Some(Found {
+            len: line_len(&front[..end]),
+            whole: end + 1,
+        })
+    }
+
+    // The last line, which has no end.
+    fn last_line(&self) -> Option<Found>
+        ensures { MatchOption result (self.now.pending ≡ []) (λ f. (0 < f.whole) × (f.len ≡ f.whole) × (f.whole ≡ length self.now.pending)) }
+    {
+        let len = self.end - self.at;
+        if len == 0 {
+            None
+        } else {
+            Some(Found { len, whole: len })
+        }
+    }
+
+    // Takes more bytes, none only at the end. No line may end in those that were taken.
+    fn read_more<S: Shelf>(&mut self, shelf: &mut S) -> Result<usize, FeedError>
+        requires slot { self.old.slot < S.opened shelf.old }
+        requires few { self.old.taken < 2 ^ 40 }
+        ensures taken { IfOk result (λ n. self.new.taken ≡ self.old.taken + n) }
+        ensures most { self.new.taken ≤ 2 ^ 40 }
+        ensures bytes { IfOk result (λ n. IfSome (S.told shelf.old) (λ t. self.new.pending ≡ take 257 self.old.pending ++ take n (left t self.old.slot))) }
+        ensures reads { IfOk result (λ n. ReadsOn (S.told shelf.old) (S.told shelf.new) self.old.slot n) }
+        ensures slot { self.new.slot ≡ self.old.slot }
+        ensures lines { self.new.lines ≡ self.old.lines }
+        ensures kept { OnErr result (self.new ≡ record self.old { pending = take 257 self.old.pending }) }
+        ensures untouched { OnErr result (S.told shelf.new ≡ S.told shelf.old) }
+        ensures no_turns { IfErr result (IfTurns (λ _. ⊥)) }
+        ensures opened { S.opened shelf.new ≡ S.opened shelf.old }
+        ensures cause { IfErr result (BlamesShelf (S.faults shelf.old) (S.faults shelf.new)) }
+        ensures calm { OnOk result (S.faults shelf.new ≡ S.faults shelf.old) }
+        ensures later { S.faults shelf.old ≤ S.faults shelf.new }
+    {
+        self.end = move_front(&mut self.block, self.at, self.end);
+        self.at = 0;
+        grow_block(&mut self.block)?;
+        let room = (BLOCK - self.end).min((MOST_BYTES - self.taken) as usize);
+        let n = read_at(shelf, self.slot, &mut self.block, self.end, room)?;
+        self.end += n;
+        self.taken += n as u64;
+        Ok(n)
+    }
+
+    /// Takes bytes until the whole next line is there, and answers where it lies; None where there is no further line.
+    /// After `Shelf` or `Memory` no byte is lost, and the call may be made again.
+    pub fn find<S: Shelf>(&mut self, shelf: &mut S) -> Result<Option<Found>, FeedError>
+        requires slot { self.old.slot < S.opened shelf.old }
+        ensures line { IfOk result (λ r. MatchOption r (IsAtEnd (S.told shelf.new) self.new) (λ f. IsFront (S.told shelf.new) self.new f.len f.whole)) }
+        ensures ahead { ahead (S.told shelf.new) self.new ≡ ahead (S.told shelf.old) self.old }
+        ensures slot { self.new.slot ≡ self.old.slot }
+        ensures lines { self.new.lines ≡ self.old.lines }
+        ensures most_lines { self.new.lines ≤ 2 ^ 40 }
+
+        // How many bytes were taken.
+        ensures advances { Advances (S.told shelf.old) (S.told shelf.new) self.old.slot (self.new.taken - self.old.taken) }
+        ensures later { self.old.taken ≤ self.new.taken }
+        ensures most { self.new.taken ≤ 2 ^ 40 }
+        ensures fewer { IfOk result (λ r. IfNone r (self.new.taken < 2 ^ 40)) }
+
+        // The errors.
+        ensures turns { IfErr result (IfTurns (λ n. (n ≡ 2 ^ 40) × (self.new.taken ≡ 2 ^ 40) × NeedsMore self.new)) }
+        ensures turns_due { self.old.taken ≡ 2 ^ 40 → NeedsMore self.old → result ≡ Err (FeedError.Turns (2 ^ 40)) }
+        ensures cause { IfErr result (BlamesShelf (S.faults shelf.old) (S.faults shelf.new)) }
+        ensures calm { OnOk result (S.faults shelf.new ≡ S.faults shelf.old) }
+        ensures no_fewer_faults { S.faults shelf.old ≤ S.faults shelf.new }
+        ensures opened { S.opened shelf.new ≡ S.opened shelf.old }
+    {
+        'reads: loop {
+            if let Some(found) = self.ended_line() {
+                return Ok(Some(found));
+            }
+            if self.taken == MOST_BYTES {
+                return Err(FeedError::Turns { taken: self.taken });
+            }
+            let n = self.read_more(shelf)?;
+            if n == 0 {
+                return Ok(self.last_line());
+            }
+        }
+    }
+
+    /// The line that was found, without its end, unless it is long.
+    pub fn text(&self, found: Found) -> Option<&[u8]>
+        requires { found.len ≤ length self.now.pending }
+        ensures { option_map (λ line. line.now) result ≡ seen (take found.len self.now.pending) }
+    {
+        let line = &self.block[self.at..self.at + found.len];
+        if line.len() > 255 { None } else { Some(line) }
+    }
+
+    /// Leaves behind the line that was found.
+    pub fn skip(&mut self, found: Found)
+        requires some { 0 < found.whole }
+        requires within { found.whole ≤ length self.old.pending }
+        ensures { self.new ≡ answered found.whole self.old }
+    {
+        self.at += found.whole;
+        self.lines += 1;
+    }
+
+    /// The next line; None exactly at the end. After `Shelf` or `Memory` no byte is lost, and the call may be made again.
+    pub fn next<S: Shelf>(&mut self, shelf: &mut S) -> Result<Option<Line>, FeedError>
+        requires slot { self.old.slot < S.opened shelf.old }
+        ensures line { IfOk result (λ r. IfSome r (λ line. ahead (S.told shelf.old) self.old ≡ option_map (λ rest. told_line line ∷ rest) (ahead (S.told shelf.new) self.new))) }
+        ensures number { IfOk result (λ r. IfSome r (λ line. number_of line ≡ self.new.lines)) }
+        ensures one_more { IfOk result (λ r. MatchOption r (self.new.lines ≡ self.old.lines) (λ _. self.new.lines ≡ self.old.lines + 1)) }
+        ensures most_lines { self.new.lines ≤ 2 ^ 40 }
+        ensures end { IfOk result (λ r. IfNone r (IsAtEnd (S.told shelf.new) self.new)) }
+        ensures none { IfOk result (λ r. IfNone r (ahead (S.told shelf.old) self.old ≡ option_map (λ _. []) (S.told shelf.old))) }
+        ensures slot { self.new.slot ≡ self.old.slot }
+
+        // How many bytes were taken.
+        ensures advances { Advances (S.told shelf.old) (S.told shelf.new) self.old.slot (self.new.taken - self.old.taken) }
+        ensures later { self.old.taken ≤ self.new.taken }
+        ensures most { self.new.taken ≤ 2 ^ 40 }
+        ensures fewer { IfOk result (λ r. IfNone r (self.new.taken < 2 ^ 40)) }
+
+        // After an error all lines are still to come.
+        ensures kept { OnErr result (ahead (S.told shelf.new) self.new ≡ ahead (S.told shelf.old) self.old) }
+        ensures kept_lines { OnErr result (self.new.lines ≡ self.old.lines) }
+        ensures turns { IfErr result (IfTurns (λ n. (n ≡ 2 ^ 40) × (self.new.taken ≡ 2 ^ 40) × NeedsMore self.new)) }
+        ensures turns_due { self.old.taken ≡ 2 ^ 40 → NeedsMore self.old → result ≡ Err (FeedError.Turns (2 ^ 40)) }
+        ensures cause { IfErr result (BlamesShelf (S.faults shelf.old) (S.faults shelf.new)) }
+        ensures calm { OnOk result (S.faults shelf.new ≡ S.faults shelf.old) }
+        ensures no_fewer_faults { S.faults shelf.old ≤ S.faults shelf.new }
+        ensures opened { S.opened shelf.new ≡ S.opened shelf.old }
+    {
+        let Some(found) = self.find(shelf)? else {
+            return Ok(None);
+        };
+        let number = self.lines() + 1;
+        let line = match self.text(found) {
+            None => Line::Long { number },
+            Some(text) => Line::Text {
+                number,
+                bytes: copied(self.alloc, text)?,
+            },
+        };
+        self.skip(found);
+        Ok(Some(line))
+    }
+}
