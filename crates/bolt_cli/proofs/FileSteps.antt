@@ -1,0 +1,61 @@
+-- A file that is opened and then read.
+use Rattle.std.specs.Prelude.{◌≡◌, ℕ, ◌+◌, ◌-◌, ◌^◌, ◌<◌, ◌≤◌, List, [], ◌∷◌, ◌++◌, length, Option, Some, None, Result, Ok, Err, IfSome, OnOk, slice_set}
+use Rattle.std.specs.Option.{option_map}
+use Rattle.std.proofs.Common.{refl, sym, ◌∙◌, ap, subst, arith, zero-add, length-append, length-drop}
+use Rattle.std.proofs.lemmas.List.{get_or_push}
+use Rattle.std.proofs.Math.Seq.{set-append_seam}
+use Rattle.bolt_io.specs.Told.{Told, no_slot, left, opened_at, taken_from}
+use Rattle.bolt_io.specs.declared.files.Slot.{Slot}
+use Rattle.bolt_io.proofs.TakenLemmas.{left-opened_at, left-taken_from}
+use Rattle.text_lines.specs.Feed.{TookBytes}
+use Rattle.bolt_cli.specs.Files.{content, read_to_end}
+
+-- n bytes taken from the slot that was just opened
+taken_from-opened_at : (name : List ℕ) (n : ℕ) (t : Told) → n ≡ length (content t name) → taken_from (length t.slots) n (opened_at name t) ≡ read_to_end name t
+taken_from-opened_at name n t is =
+    let fresh : Slot = record { name = name; taken = 0 } in
+    let told : List Slot → Told = λ (l : List Slot). record { files = t.files; slots = l } in
+    let put : Slot → List Slot = λ (y : Slot). slice_set (t.slots ++ fresh ∷ []) (length t.slots) (record { name = y.name; taken = y.taken + n }) in
+    let last : ℕ → List Slot = λ (j : ℕ). t.slots ++ record { name = name; taken = j } ∷ [] in
+    ap told
+    (ap put (get_or_push t.slots fresh no_slot (length t.slots) refl)
+    ∙ set-append_seam t.slots fresh [] (record { name = name; taken = 0 + n })
+    ∙ ap last (zero-add n ∙ is))
+
+-- what was left to a slot that was just opened are the bytes of its file
+pub opened_bytes : (P : List ℕ → Type 0) (a b : Option Told) (k : ℕ) (name : List ℕ) → IfSome a (λ t. length t.slots ≡ k) → b ≡ option_map (opened_at name) a → IfSome b (λ u. P (left u k)) → IfSome a (λ t. P (content t name))
+opened_bytes P None b k name tells opened h = tt
+opened_bytes P (Some t) b k name tells opened h =
+    let here : P (left (opened_at name t) k) = subst (λ (o : Option Told). IfSome o (λ u. P (left u k))) opened h in
+    subst P (ap (left (opened_at name t)) (sym tells) ∙ left-opened_at name t) here
+
+pub opened_left : (a : Option Told) (k : ℕ) (name : List ℕ) → IfSome a (λ t. length t.slots ≡ k) → IfSome a (λ t. left (opened_at name t) k ≡ content t name)
+opened_left None k name tells = tt
+opened_left (Some t) k name tells = ap (left (opened_at name t)) (sym tells) ∙ left-opened_at name t
+
+-- where nothing is left then, all of the file was taken
+pub opened_to_end : (a b c : Option Told) (k : ℕ) (name : List ℕ) → IfSome a (λ t. length t.slots ≡ k) → b ≡ option_map (opened_at name) a → TookBytes b c k → IfSome c (λ u. left u k ≡ []) → c ≡ option_map (read_to_end name) a
+opened_to_end None b c k name tells opened took none = took.1.told ∙ ap (option_map (taken_from k took.0)) opened
+opened_to_end (Some t) b c k name tells opened took none =
+    let n = took.0 in
+    let after = opened_at name t in
+    let same : length t.slots ≡ k = tells in
+    let size : length after.slots ≡ length t.slots + 1 = length-append t.slots _ in
+    let below : k < length after.slots = omega (arith, size, same) in
+    let all : left after k ≡ content t name = ap (left after) (sym tells) ∙ left-opened_at name t in
+    let is : c ≡ Some (taken_from k n after) = took.1.told ∙ ap (option_map (taken_from k n)) opened in
+    let within : n ≤ length (left after k) = subst (λ (o : Option Told). IfSome o (λ u. n ≤ length (left u k))) opened took.1.within in
+    let rest : left (taken_from k n after) k ≡ [] = subst (λ (o : Option Told). IfSome o (λ u. left u k ≡ [])) is none in
+    let over : length (left after k) - n ≡ 0 = sym (length-drop n (left after k)) ∙ ap length (sym (left-taken_from k after n 0 below) ∙ rest) in
+    let whole : n ≡ length (content t name) = omega (arith, ap length all, within, over) in
+    is ∙ ap (λ (j : ℕ). let o : Option Told = Some (taken_from j n after) in o) (sym tells) ∙ ap (λ (u : Told). let o : Option Told = Some u in o) (taken_from-opened_at name n t whole)
+
+-- all that a slot had were few bytes
+pub few_left : (a : Option Told) (slot n : ℕ) → n < 2 ^ 40 → IfSome a (λ t. length (left t slot) ≡ n) → IfSome a (λ t. length (left t slot) < 2 ^ 40)
+few_left None slot n few all = tt
+few_left (Some t) slot n few all = omega (arith, all)
+
+-- what follows from a fact of an Ok is a fact of it
+pub on_ok : {A E : Type 0} (r : Result A E) (P Q : Type 0) → (P → Q) → OnOk r P → OnOk r Q
+on_ok (Ok x) P Q step h = step h
+on_ok (Err e) P Q step h = tt

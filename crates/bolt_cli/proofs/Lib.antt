@@ -1,0 +1,3 @@
+pub mod FileSteps
+pub mod BatchSteps
+pub mod ReplySteps

@@ -1,0 +1,81 @@
+use Rattle.std.proofs.Common.{◌≡◌, ◌∙◌, ◌+◌, ◌∷◌, ℕ, Option, refl, sym, ap, subst, arith}
+use Rattle.std.specs.Prelude.{IfSome}
+use Rattle.std.specs.Option.{option_map}
+use Rattle.bolt_io.proofs.TakenLemmas.{slot_told}
+use Rattle.text_lines.proofs.FeedLemmas.{Advances-none, Advances-on}
+use Rattle.graph_text.specs.declared.batch_text.BatchText.{BatchText}
+use Rattle.graph_text.specs.BatchCode.{batches_ahead}
+use Rattle.run_text.specs.Run.{Progress, behind, moved, batch_text}
+use Rattle.bolt_cli.specs.Ahead.{reply_ahead}
+use Rattle.bolt_cli.proofs.BatchSteps.{batch_ahead, up_to-none, up_to-then, up_to-part, up_to-nothing, part-behind}
+use Rattle.bolt_cli.proofs.stream.put_batches.Goals as goal
+
+pub batches-init : goal.batches-init
+batches-init g c = record {
+  so_far = up_to-none _ _;
+  numbered = c.requires.numbered;
+  most = c.requires.most;
+  slot = refl;
+  advances = Advances-none _ _ _ (omega arith);
+  later = omega arith;
+  opened = refl;
+  shelf_calm = refl;
+  sink_calm = refl;
+}
+
+pub returns-in-Err-clause-part : goal.returns-in-Err-clause-part
+returns-in-Err-clause-part g c = up_to-nothing _ _ _ _ c.batches.invariant.so_far
+
+pub returns-in-Err-clause-advances : goal.returns-in-Err-clause-advances
+returns-in-Err-clause-advances g c =
+    let below = slot_told (g.S.Shelf.told c.args.shelf.now) _ _ (g.met.S.Shelf.tells_slots c.args.shelf.now) c.requires.slot in
+    Advances-on _ _ _ _ _ _ _ below c.batches.invariant.advances c.batches.invariant.later _ c.batches.invariant.slot c.next_batch.ensures.advances c.next_batch.ensures.later
+
+pub returns-in_default-clause-part : goal.returns-in_default-clause-part
+returns-in_default-clause-part g c = up_to-nothing _ _ _ _ c.batches.invariant.so_far
+
+pub returns-in_default-clause-advances : goal.returns-in_default-clause-advances
+returns-in_default-clause-advances g c =
+    let below = slot_told (g.S.Shelf.told c.args.shelf.now) _ _ (g.met.S.Shelf.tells_slots c.args.shelf.now) c.requires.slot in
+    Advances-on _ _ _ _ _ _ _ below c.batches.invariant.advances c.batches.invariant.later _ c.batches.invariant.slot c.next_batch.ensures.advances c.next_batch.ensures.later
+
+pub returns-in-Err-put_batch-clause-part : goal.returns-in-Err-put_batch-clause-part
+returns-in-Err-put_batch-clause-part g c =
+    let mid = g.S.Shelf.told c.batches.shelf in
+    let later = g.S.Shelf.told c.next_batch.new.shelf in
+    let b : BatchText = c.in-Some.batch in
+    let run : Progress = c.batches.run in
+    let P : Option BatchText → Type 0 = λ o. IfSome o (λ x. batches_ahead mid c.batches.reader.feed ≡ option_map (λ rest. x ∷ rest) (batches_ahead later c.next_batch.new.reader.feed)) in
+    let is = subst P c.in-Some.is c.in-Ok.ensures.batch in
+    let ahead = batch_ahead mid later c.batches.reader.feed c.next_batch.new.reader.feed run b is in
+    up_to-part _ _ _ _ _ c.batches.invariant.so_far (part-behind _ (reply_ahead later c.next_batch.new.reader.feed (moved run b)) (batch_text run b) _ _ ahead c.put_batch.ensures.part)
+
+pub returns-in-Err-put_batch-clause-advances : goal.returns-in-Err-put_batch-clause-advances
+returns-in-Err-put_batch-clause-advances g c =
+    let below = slot_told (g.S.Shelf.told c.args.shelf.now) _ _ (g.met.S.Shelf.tells_slots c.args.shelf.now) c.requires.slot in
+    Advances-on _ _ _ _ _ _ _ below c.batches.invariant.advances c.batches.invariant.later _ c.batches.invariant.slot c.next_batch.ensures.advances c.next_batch.ensures.later
+
+pub batches-preserved : goal.batches-preserved
+batches-preserved g c =
+    let mid = g.S.Shelf.told c.batches.shelf in
+    let later = g.S.Shelf.told c.next_batch.new.shelf in
+    let b : BatchText = c.in-Some.batch in
+    let run : Progress = c.batches.run in
+    let P : Option BatchText → Type 0 = λ o. IfSome o (λ x. batches_ahead mid c.batches.reader.feed ≡ option_map (λ rest. x ∷ rest) (batches_ahead later c.next_batch.new.reader.feed)) in
+    let is = subst P c.in-Some.is c.in-Ok.ensures.batch in
+    let ahead = batch_ahead mid later c.batches.reader.feed c.next_batch.new.reader.feed run b is in
+    let below = slot_told (g.S.Shelf.told c.args.shelf.now) _ _ (g.met.S.Shelf.tells_slots c.args.shelf.now) c.requires.slot in
+    let moved_to : c.put_batch.new.run ≡ moved run b = c.in-Ok-put_batch.ensures.moved in
+    let one_more : c.next_batch.new.reader.batches ≡ c.batches.reader.batches + 1 = subst (λ (o : Option BatchText). IfSome o (λ _. c.next_batch.new.reader.batches ≡ c.batches.reader.batches + 1)) c.in-Some.is c.in-Ok.ensures.one_more in
+    let rest = reply_ahead later c.next_batch.new.reader.feed in
+    record {
+      so_far = up_to-then _ _ _ _ _ _ (batch_text run b) c.batches.invariant.so_far c.in-Ok-put_batch.ensures.all (ahead ∙ ap (λ (p : Progress). option_map (behind (batch_text run b)) (rest p)) (sym moved_to));
+      numbered = c.in-Ok-put_batch.ensures.counted ∙ ap (λ (n : ℕ). n + 1) c.batches.invariant.numbered ∙ sym one_more;
+      most = c.next_batch.ensures.most_batches;
+      slot = c.next_batch.ensures.slot ∙ c.batches.invariant.slot;
+      advances = Advances-on _ _ _ _ _ _ _ below c.batches.invariant.advances c.batches.invariant.later _ c.batches.invariant.slot c.next_batch.ensures.advances c.next_batch.ensures.later;
+      later = omega arith;
+      opened = c.next_batch.ensures.opened ∙ c.batches.invariant.opened;
+      shelf_calm = c.in-Ok.ensures.cause ∙ c.batches.invariant.shelf_calm;
+      sink_calm = c.in-Ok-put_batch.ensures.cause ∙ c.batches.invariant.sink_calm;
+    }

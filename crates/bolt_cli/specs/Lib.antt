@@ -1,0 +1,5 @@
+pub mod Files
+pub mod Stops
+pub mod Replied
+pub mod Ahead
+pub mod Command

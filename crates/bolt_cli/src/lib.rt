@@ -1,0 +1,15 @@
+//! The command: from its words and the files that they name to its text and its status.
+#![tactic(auto)]
+
+mod command;
+mod files;
+mod put;
+mod run;
+mod stop;
+mod stream;
+mod words;
+
+pub use command::{bolt, bolt_still};
+
+#[cfg(test)]
+mod tests;

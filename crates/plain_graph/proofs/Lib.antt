@@ -1,0 +1,3 @@
+pub mod Judged
+pub mod ListEdits
+pub mod NetNumbers
