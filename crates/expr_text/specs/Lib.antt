@@ -1,0 +1,13 @@
+pub mod Reading
+pub mod Grammar
+pub mod Printing
+pub mod PrintingCode
+pub mod Gives
+pub mod Scoped
+pub mod Expressions
+pub mod Laws
+pub use Rattle.vertex_expr.specs.Tree
+pub use Rattle.vertex_expr.specs.Node
+pub use Rattle.vertex_expr.specs.Names
+pub use Rattle.vertex_expr.specs.Writable
+pub use Rattle.text_words.specs.Says

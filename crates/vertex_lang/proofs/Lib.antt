@@ -1,0 +1,13 @@
+pub mod Printed
+pub mod LineReads
+pub mod Admission
+pub mod EntryReads
+pub mod ListSteps
+pub mod ListReads
+pub mod OnceReads
+pub mod TreeReads
+pub mod WholeRoundTrip
+pub mod GoodDrafts
+pub mod EntryFacts
+pub mod EntriesKept
+pub mod TextPrograms
