@@ -48,10 +48,6 @@ up_to-then a b c old mid new text so_far wrote is = record {
     each None = refl
     each (Some x) = ap (λ (l : List ℕ). (let y : Option Reply = Some (record { text = l; status = x.status }) in y)) (sym (append_assoc so_far.text text x.text))
 
--- the same in other words
-pub up_to-same : (a b c : Option Reply) (old new : Option (List ℕ)) → WroteUpTo a b old new → b ≡ c → WroteUpTo a c old new
-up_to-same a b c old new so_far is = subst (λ (o : Option Reply). WroteUpTo a o old new) is so_far
-
 -- a part of what was still to be written
 pub up_to-part : (a b : Option Reply) (old mid new : Option (List ℕ)) → WroteUpTo a b old mid → IfSome b (λ r. WrotePart mid new r.text) → IfSome a (λ r. WrotePart old new r.text)
 up_to-part a None old mid new so_far part = subst (λ (o : Option Reply). IfSome o (λ r. WrotePart old new r.text)) (sym so_far.is) tt

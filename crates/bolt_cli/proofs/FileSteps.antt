@@ -22,16 +22,17 @@ taken_from-opened_at name n t is =
     ∙ set-append_seam t.slots fresh [] (record { name = name; taken = 0 + n })
     ∙ ap last (zero-add n ∙ is))
 
--- what was left to a slot that was just opened are the bytes of its file
+-- a slot that was just opened has all the bytes of its file left
+pub opened_left : (a : Option Told) (k : ℕ) (name : List ℕ) → IfSome a (λ t. length t.slots ≡ k) → IfSome a (λ t. left (opened_at name t) k ≡ content t name)
+opened_left None k name tells = tt
+opened_left (Some t) k name tells = ap (left (opened_at name t)) (sym tells) ∙ left-opened_at name t
+
+-- and so what holds of what it has left holds of the file
 pub opened_bytes : (P : List ℕ → Type 0) (a b : Option Told) (k : ℕ) (name : List ℕ) → IfSome a (λ t. length t.slots ≡ k) → b ≡ option_map (opened_at name) a → IfSome b (λ u. P (left u k)) → IfSome a (λ t. P (content t name))
 opened_bytes P None b k name tells opened h = tt
 opened_bytes P (Some t) b k name tells opened h =
     let here : P (left (opened_at name t) k) = subst (λ (o : Option Told). IfSome o (λ u. P (left u k))) opened h in
-    subst P (ap (left (opened_at name t)) (sym tells) ∙ left-opened_at name t) here
-
-pub opened_left : (a : Option Told) (k : ℕ) (name : List ℕ) → IfSome a (λ t. length t.slots ≡ k) → IfSome a (λ t. left (opened_at name t) k ≡ content t name)
-opened_left None k name tells = tt
-opened_left (Some t) k name tells = ap (left (opened_at name t)) (sym tells) ∙ left-opened_at name t
+    subst P (opened_left (Some t) k name tells) here
 
 -- where nothing is left then, all of the file was taken
 pub opened_to_end : (a b c : Option Told) (k : ℕ) (name : List ℕ) → IfSome a (λ t. length t.slots ≡ k) → b ≡ option_map (opened_at name) a → TookBytes b c k → IfSome c (λ u. left u k ≡ []) → c ≡ option_map (read_to_end name) a
@@ -42,7 +43,7 @@ opened_to_end (Some t) b c k name tells opened took none =
     let same : length t.slots ≡ k = tells in
     let size : length after.slots ≡ length t.slots + 1 = length-append t.slots _ in
     let below : k < length after.slots = omega (arith, size, same) in
-    let all : left after k ≡ content t name = ap (left after) (sym tells) ∙ left-opened_at name t in
+    let all : left after k ≡ content t name = opened_left (Some t) k name tells in
     let is : c ≡ Some (taken_from k n after) = took.1.told ∙ ap (option_map (taken_from k n)) opened in
     let within : n ≤ length (left after k) = subst (λ (o : Option Told). IfSome o (λ u. n ≤ length (left u k))) opened took.1.within in
     let rest : left (taken_from k n after) k ≡ [] = subst (λ (o : Option Told). IfSome o (λ u. left u k ≡ [])) is none in

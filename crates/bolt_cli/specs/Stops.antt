@@ -25,9 +25,10 @@ BlamesShelf r old new = MatchResult r (λ _. new ≡ old) (ShelfCause old new)
 abbrev pub BlamesSink : {T : Type 0} → Result T Stop → ℕ → ℕ → Type 0
 BlamesSink r old new = MatchResult r (λ _. new ≡ old) (SinkCause old new)
 
--- the stops of a part that writes and reads nothing, and of one that reads and writes nothing
+-- a part that only writes has no fault of the shelf, and meets no file that is too long
 abbrev pub IsOfWriting : Stop → Type 0
 IsOfWriting e = (e ≢ ShelfFailed) × (e ≢ TooLong)
 
+-- a part that only reads has no fault of the sink
 abbrev pub IsOfReading : Stop → Type 0
 IsOfReading e = e ≢ SinkFailed

@@ -12,4 +12,6 @@ mod words;
 pub use command::{bolt, bolt_still};
 
 #[cfg(test)]
+mod fault_tests;
+#[cfg(test)]
 mod tests;

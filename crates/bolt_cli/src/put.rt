@@ -1,5 +1,5 @@
 // Writes the parts of a text.
-ghost use Rattle.std.specs.Prelude.{◌≡◌, ◌≢◌, ◌+◌, ◌<◌, ◌^◌, length, IfErr, OnOk};
+ghost use Rattle.std.specs.Prelude.{◌≡◌, ◌+◌, ◌<◌, ◌^◌, length, IfErr, OnOk};
 ghost use Rattle.bolt_io.specs.Written.{Wrote, WrotePart};
 ghost use Rattle.run_text.specs.Lines.{graph_refused_line};
 ghost use Rattle.run_text.specs.Run.{open_text, batch_text, end_text, moved, next_number};

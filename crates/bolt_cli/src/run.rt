@@ -24,7 +24,8 @@ fn run_opened<S: Shelf, K: Sink>(
     out: &mut K,
 ) -> Result<u8, Stop>
     requires { S.opened shelf.old < 2 ^ 31 }
-    ensures reply { Replied (S.told shelf.old) (λ t. graph_reply (Ok opened) (content t stream.now)) (K.written out.old) (K.written out.new) result }
+    ensures reply { Replied (S.told shelf.old) (λ t. graph_reply (Ok opened) (content t stream.now))
+        (K.written out.old) (K.written out.new) result }
     ensures made { IfOk result IsMade }
     ensures short { OnOk result (IfSome (S.told shelf.old) (λ t. IsShort t stream.now)) }
     ensures read { OnOk result (S.told shelf.new ≡ option_map (read_to_end stream.now) (S.told shelf.old)) }
@@ -50,10 +51,13 @@ pub fn run<S: Shelf, K: Sink>(
     out: &mut K,
 ) -> Result<u8, Stop>
     requires { S.opened shelf.old < 2 ^ 30 }
-    ensures reply { Replied (S.told shelf.old) (λ t. run_reply (content t graph.now) (content t stream.now)) (K.written out.old) (K.written out.new) result }
+    ensures reply { Replied (S.told shelf.old) (λ t. run_reply (content t graph.now) (content t stream.now))
+        (K.written out.old) (K.written out.new) result }
     ensures known { IfOk result IsRunStatus }
-    ensures short { IfOk result (λ status. status ≢ 4 → IfSome (S.told shelf.old) (λ t. AreShort t graph.now stream.now)) }
-    ensures read { IfOk result (λ status. status ≢ 4 → S.told shelf.new ≡ option_map (both_to_end graph.now stream.now) (S.told shelf.old)) }
+    ensures short { IfOk result (λ status. status ≢ 4 →
+        IfSome (S.told shelf.old) (λ t. AreShort t graph.now stream.now)) }
+    ensures read { IfOk result (λ status. status ≢ 4 →
+        S.told shelf.new ≡ option_map (both_to_end graph.now stream.now) (S.told shelf.old)) }
     ensures too_long { IsErrOf result Stop.TooLong → IfSome (S.told shelf.old) (λ t. MeetsLong t graph.now stream.now) }
     ensures shelf_cause { BlamesShelf result (S.faults shelf.old) (S.faults shelf.new) }
     ensures sink_cause { BlamesSink result (K.faults out.old) (K.faults out.new) }

@@ -1,11 +1,11 @@
 // Runs over a stream, batch after batch.
-ghost use Rattle.std.specs.Prelude.{◌≡◌, ◌+◌, ◌-◌, ◌<◌, ◌≤◌, ◌^◌, ◌⊎◌, ◌∷◌, [], length, IfOk, OnOk, IfErr, IfSome, IfNone, IsErrOf, MatchOption};
+ghost use Rattle.std.specs.Prelude.{◌≡◌, ◌+◌, ◌-◌, ◌<◌, ◌≤◌, ◌^◌, ◌∷◌, [], length, IfOk, OnOk, IfErr, IfSome, IfNone, IsErrOf};
 ghost use Rattle.std.specs.Option.{option_map};
 ghost use Rattle.bolt_io.specs.Told.{left};
 ghost use Rattle.bolt_io.specs.Written.{WrotePart};
 ghost use Rattle.text_lines.specs.Feed.{Advances, TookBytes, IsAtEnd};
 ghost use Rattle.graph_text.specs.BatchCode.{batches_ahead};
-ghost use Rattle.run_text.specs.Run.{stream_reply, IsRunStatus};
+ghost use Rattle.run_text.specs.Run.{stream_reply};
 ghost use Rattle.bolt_cli.specs.Ahead.{reply_ahead, end_reply, WroteUpTo};
 ghost use Rattle.bolt_cli.specs.Command.{IsMade};
 ghost use Rattle.bolt_cli.specs.Files.{content, IsShort, IsLong, read_to_end};
@@ -23,14 +23,17 @@ use std::alloc::Global;
 // The next batch, or nothing at the end of the stream.
 fn next_batch<S: Shelf>(reader: &mut BatchReader, shelf: &mut S) -> Result<Option<BatchText>, Stop>
     requires slot { reader.old.feed.slot < S.opened shelf.old }
-    ensures batch { IfOk result (λ r. IfSome r (λ b. batches_ahead (S.told shelf.old) reader.old.feed ≡ option_map (λ rest. b ∷ rest) (batches_ahead (S.told shelf.new) reader.new.feed))) }
-    ensures none { IfOk result (λ r. IfNone r (batches_ahead (S.told shelf.old) reader.old.feed ≡ option_map (λ _. []) (S.told shelf.new))) }
+    ensures batch { IfOk result (λ r. IfSome r (λ b. batches_ahead (S.told shelf.old) reader.old.feed
+        ≡ option_map (λ rest. b ∷ rest) (batches_ahead (S.told shelf.new) reader.new.feed))) }
+    ensures none { IfOk result (λ r. IfNone r (batches_ahead (S.told shelf.old) reader.old.feed
+        ≡ option_map (λ _. []) (S.told shelf.new))) }
     ensures end { IfOk result (λ r. IfNone r (IsAtEnd (S.told shelf.new) reader.new.feed)) }
     ensures paired { IfOk result (λ r. IfSome r (λ b. length b.lines ≡ length b.edits)) }
     ensures one_more { IfOk result (λ r. IfSome r (λ _. reader.new.batches ≡ reader.old.batches + 1)) }
     ensures most_batches { reader.new.batches ≤ 2 ^ 40 }
     ensures slot { reader.new.feed.slot ≡ reader.old.feed.slot }
-    ensures advances { Advances (S.told shelf.old) (S.told shelf.new) reader.old.feed.slot (reader.new.feed.taken - reader.old.feed.taken) }
+    ensures advances { Advances (S.told shelf.old) (S.told shelf.new) reader.old.feed.slot
+        (reader.new.feed.taken - reader.old.feed.taken) }
     ensures later { reader.old.feed.taken ≤ reader.new.feed.taken }
     ensures fewer { IfOk result (λ r. IfNone r (reader.new.feed.taken < 2 ^ 40)) }
     ensures too_long { IsErrOf result Stop.TooLong → reader.new.feed.taken ≡ 2 ^ 40 }
@@ -57,11 +60,14 @@ fn put_batches<S: Shelf, K: Sink>(
     requires slot { reader.old.feed.slot < S.opened shelf.old }
     requires numbered { run.old.accepted + run.old.refused ≡ reader.old.batches }
     requires most { reader.old.batches ≤ 2 ^ 40 }
-    ensures part { IfSome (reply_ahead (S.told shelf.old) reader.old.feed run.old) (λ reply. WrotePart (K.written out.old) (K.written out.new) reply.text) }
-    ensures all { OnOk result (WroteUpTo (reply_ahead (S.told shelf.old) reader.old.feed run.old) (option_map (λ _. end_reply run.new) (S.told shelf.new)) (K.written out.old) (K.written out.new)) }
+    ensures part { IfSome (reply_ahead (S.told shelf.old) reader.old.feed run.old)
+        (λ reply. WrotePart (K.written out.old) (K.written out.new) reply.text) }
+    ensures all { OnOk result (WroteUpTo (reply_ahead (S.told shelf.old) reader.old.feed run.old)
+        (option_map (λ _. end_reply run.new) (S.told shelf.new)) (K.written out.old) (K.written out.new)) }
     ensures end { OnOk result (IsAtEnd (S.told shelf.new) reader.new.feed) }
     ensures slot { reader.new.feed.slot ≡ reader.old.feed.slot }
-    ensures advances { Advances (S.told shelf.old) (S.told shelf.new) reader.old.feed.slot (reader.new.feed.taken - reader.old.feed.taken) }
+    ensures advances { Advances (S.told shelf.old) (S.told shelf.new) reader.old.feed.slot
+        (reader.new.feed.taken - reader.old.feed.taken) }
     ensures later { reader.old.feed.taken ≤ reader.new.feed.taken }
     ensures fewer { OnOk result (reader.new.feed.taken < 2 ^ 40) }
     ensures too_long { IsErrOf result Stop.TooLong → reader.new.feed.taken ≡ 2 ^ 40 }
@@ -93,7 +99,8 @@ fn run_slot<S: Shelf, K: Sink>(
     out: &mut K,
 ) -> Result<u8, Stop>
     requires { slot < S.opened shelf.old }
-    ensures reply { Replied (S.told shelf.old) (λ t. stream_reply opened (left t slot)) (K.written out.old) (K.written out.new) result }
+    ensures reply { Replied (S.told shelf.old) (λ t. stream_reply opened (left t slot))
+        (K.written out.old) (K.written out.new) result }
     ensures made { IfOk result IsMade }
     ensures short { OnOk result (IfSome (S.told shelf.old) (λ t. length (left t slot) < 2 ^ 40)) }
     ensures end { OnOk result (IfSome (S.told shelf.new) (λ t. left t slot ≡ [])) }
@@ -122,7 +129,8 @@ pub fn run_stream<S: Shelf, K: Sink>(
     out: &mut K,
 ) -> Result<u8, Stop>
     requires { S.opened shelf.old < 2 ^ 31 }
-    ensures reply { Replied (S.told shelf.old) (λ t. stream_reply opened (content t stream.now)) (K.written out.old) (K.written out.new) result }
+    ensures reply { Replied (S.told shelf.old) (λ t. stream_reply opened (content t stream.now))
+        (K.written out.old) (K.written out.new) result }
     ensures made { IfOk result IsMade }
     ensures short { OnOk result (IfSome (S.told shelf.old) (λ t. IsShort t stream.now)) }
     ensures read { OnOk result (S.told shelf.new ≡ option_map (read_to_end stream.now) (S.told shelf.old)) }

@@ -8,30 +8,30 @@ use std::alloc::{AllocError, Global};
 use std::test::Fail;
 
 // An edge of a triangle is cut.
-const TRIANGLE_GRAPH: &[u8] = b"0 1\n1 2\n2 0\n";
+pub const TRIANGLE_GRAPH: &[u8] = b"0 1\n1 2\n2 0\n";
 
-const TRIANGLE_STREAM: &[u8] = b"- 2 0\ncommit\n";
+pub const TRIANGLE_STREAM: &[u8] = b"- 2 0\ncommit\n";
 
-const TRIANGLE_TEXT: &str =
+pub const TRIANGLE_TEXT: &str =
     "open vertices 3 edges 3\nvalue 0 1000000\nvalue 1 1000000\nvalue 2 1000000\nbatch 1 accepted added 0 removed 1 edges 2\nset 0 150000\nset 1 277500\nset 2 385875\ntotal 0 813375\nend accepted 1 refused 0\n";
 
 // What is written of it before the stream is read, and before its end is reached.
-const TRIANGLE_OPENING: &str =
+pub const TRIANGLE_OPENING: &str =
     "open vertices 3 edges 3\nvalue 0 1000000\nvalue 1 1000000\nvalue 2 1000000\n";
 
-const TRIANGLE_BATCH: &str =
+pub const TRIANGLE_BATCH: &str =
     "open vertices 3 edges 3\nvalue 0 1000000\nvalue 1 1000000\nvalue 2 1000000\nbatch 1 accepted added 0 removed 1 edges 2\nset 0 150000\nset 1 277500\nset 2 385875\n";
 
 // A batch is refused after good edits, and leaves nothing of them.
-const MIDDLE_GRAPH: &[u8] = b"vertices 8\n0 1\n1 2\n2 0\n";
+pub const MIDDLE_GRAPH: &[u8] = b"vertices 8\n0 1\n1 2\n2 0\n";
 
-const MIDDLE_STREAM: &[u8] =
+pub const MIDDLE_STREAM: &[u8] =
     b"# first\n+ 3 4\ncommit\n# second\n+ 4 5\n- 0 1\n- 5 6\ncommit\n+ 4 5\ncommit\n";
 
-const MIDDLE_TEXT: &str =
+pub const MIDDLE_TEXT: &str =
     "open vertices 8 edges 3\nvalue 0 1000000\nvalue 1 1000000\nvalue 2 1000000\nvalue 3 150000\nvalue 4 150000\nvalue 5 150000\nvalue 6 150000\nvalue 7 150000\nbatch 1 accepted added 1 removed 0 edges 4\nset 4 277500\nbatch 2 refused line 7 absent\nbatch 3 accepted added 1 removed 0 edges 5\nset 5 385875\ntotal 0 4113375\nend accepted 2 refused 1\n";
 
-fn words_of(alloc: Global, words: &[&str]) -> Result<Vec<String>, AllocError> {
+pub fn words_of(alloc: Global, words: &[&str]) -> Result<Vec<String>, AllocError> {
     let mut all = Vec::new(alloc);
     for word in words {
         all.push(String::from_str(alloc, word)?)?;
@@ -40,7 +40,12 @@ fn words_of(alloc: Global, words: &[&str]) -> Result<Vec<String>, AllocError> {
 }
 
 // The files `g` and `s`.
-fn shelf_of(alloc: Global, graph: &[u8], stream: &[u8], piece: usize) -> Result<MemShelf, Memory>
+pub fn shelf_of(
+    alloc: Global,
+    graph: &[u8],
+    stream: &[u8],
+    piece: usize,
+) -> Result<MemShelf, Memory>
     requires { 1 ≤ piece }
     ensures { IfOk result (λ s. s.shelf.told.slots ≡ []) }
 {
@@ -241,87 +246,5 @@ fn the_room_is_limited(rt: HostRuntime) -> Result<(), Fail> {
         out.written(),
         b"open vertices 0 edges 0\nbatch 1 refused line 1025 vertex\ntotal 0 0\nend accepted 0 refused 1\n".as_slice()
     );
-    Ok(())
-}
-
-// With pieces of one byte there is one call to open, one for each byte, and one at the end: 14 calls for the graph and 15 for the
-// stream, of which the last one comes after the batch.
-#[test]
-fn each_call_of_the_shelf_fails(rt: HostRuntime) -> Result<(), Fail> {
-    let alloc = rt.alloc();
-    let words = words_of(alloc, &["run", "rank", "g", "s"])?;
-    for call in 1..31 {
-        let mut shelf = shelf_of(alloc, TRIANGLE_GRAPH, TRIANGLE_STREAM, 1)?;
-        shelf.fail_at(call)?;
-        let mut out = MemSink::new(alloc, 50);
-        let status = bolt_still(alloc, &words, &mut shelf, &mut out, &OpenGate);
-        let (wanted, text) = match call {
-            1..=14 => (5, ""),
-            15..=28 => (5, TRIANGLE_OPENING),
-            29 => (5, TRIANGLE_BATCH),
-            _ => (0, TRIANGLE_TEXT),
-        };
-        assert_eq!(rt; status, wanted, "at call {call}");
-        assert_eq!(rt; out.written(), text.as_bytes());
-    }
-    Ok(())
-}
-
-// With pieces of 4 bytes there are 27 calls.
-#[test]
-fn each_call_of_the_shelf_fails_around_a_refused_batch(rt: HostRuntime) -> Result<(), Fail> {
-    let alloc = rt.alloc();
-    let words = words_of(alloc, &["run", "rank", "g", "s"])?;
-    for call in 1..40 {
-        let mut shelf = shelf_of(alloc, MIDDLE_GRAPH, MIDDLE_STREAM, 4)?;
-        shelf.fail_at(call)?;
-        let mut out = MemSink::new(alloc, 50);
-        let status = bolt_still(alloc, &words, &mut shelf, &mut out, &OpenGate);
-        assert_eq!(rt; status, if call < 28 { 5 } else { 1 }, "at call {call}");
-        assert!(rt; MIDDLE_TEXT.as_bytes().starts_with(out.written()));
-        assert_eq!(rt;
-            out.written().len() == MIDDLE_TEXT.len(),
-            call >= 28,
-            "at call {call}"
-        );
-    }
-    Ok(())
-}
-
-// With pieces of 20 bytes the opening lines take 4 writes, the batch 5, and the end 2.
-#[test]
-fn each_call_of_the_sink_fails(rt: HostRuntime) -> Result<(), Fail> {
-    let alloc = rt.alloc();
-    let words = words_of(alloc, &["run", "rank", "g", "s"])?;
-    for call in 1..13 {
-        let mut shelf = shelf_of(alloc, TRIANGLE_GRAPH, TRIANGLE_STREAM, 100)?;
-        let mut out = MemSink::new(alloc, 20);
-        out.fail_at(call)?;
-        let status = bolt_still(alloc, &words, &mut shelf, &mut out, &OpenGate);
-        assert_eq!(rt; status, if call < 12 { 6 } else { 0 }, "at call {call}");
-        assert!(rt; TRIANGLE_TEXT.as_bytes().starts_with(out.written()));
-        assert_eq!(rt; out.written().len() == TRIANGLE_TEXT.len(), call == 12);
-    }
-    Ok(())
-}
-
-// With pieces of 20 bytes there are 19 writes.
-#[test]
-fn each_call_of_the_sink_fails_around_a_refused_batch(rt: HostRuntime) -> Result<(), Fail> {
-    let alloc = rt.alloc();
-    let words = words_of(alloc, &["run", "rank", "g", "s"])?;
-    for call in 1..40 {
-        let mut shelf = shelf_of(alloc, MIDDLE_GRAPH, MIDDLE_STREAM, 100)?;
-        let mut out = MemSink::new(alloc, 20);
-        out.fail_at(call)?;
-        let status = bolt_still(alloc, &words, &mut shelf, &mut out, &OpenGate);
-        assert_eq!(rt; status, if call < 20 { 6 } else { 1 }, "at call {call}");
-        assert!(rt; MIDDLE_TEXT.as_bytes().starts_with(out.written()));
-        assert_eq!(rt;
-            out.written().len() == MIDDLE_TEXT.len(),
-            call >= 20,
-            "at call {call}"
-        );
-    }
     Ok(())
 }

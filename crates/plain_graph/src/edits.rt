@@ -52,7 +52,8 @@ fn make(
 ) -> Result<Option<LineCause>, Memory>
     requires { AreApart edges.old }
     ensures cause { IfOk result (λ cause. cause ≡ one limits.now (graph_of attrs.old edges.old) edit.now) }
-    ensures made { IfOk result (λ cause. IfNone cause (graph_of attrs.new edges.new ≡ edited (graph_of attrs.old edges.old) edit.now)) }
+    ensures made { IfOk result (λ cause. IfNone cause
+        (graph_of attrs.new edges.new ≡ edited (graph_of attrs.old edges.old) edit.now)) }
     ensures apart { OnOk result (AreApart edges.new) }
 {
     if let Some(cause) = cause_of(limits, attrs.len(), edges.as_slice(), edit) {

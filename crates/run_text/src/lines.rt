@@ -1,6 +1,8 @@
 // The lines that a run writes.
 ghost use Rattle.std.specs.Prelude.{◌≡◌, ◌<◌, ◌++◌, length, OnOk, IfOk};
-ghost use Rattle.run_text.specs.Lines.{entry, value_at, value_lines, set_line, set_lines, labelled, open_lines as open_lines_of, accepted_lines as accepted_lines_of, cause_word as cause_word_of, refused_at, refused_line as refused_line_of, end_lines as end_lines_of};
+ghost use Rattle.run_text.specs.Lines.{entry, value_at, value_lines, set_line, set_lines, labelled, refused_at};
+ghost use Rattle.run_text.specs.Lines.{open_lines as open_lines_of, accepted_lines as accepted_lines_of, cause_word as cause_word_of};
+ghost use Rattle.run_text.specs.Lines.{refused_line as refused_line_of, end_lines as end_lines_of};
 
 use bolt_base::{LineCause, Memory};
 use graph_text::BadLine;
@@ -95,7 +97,8 @@ pub fn accepted_lines(
     old: &[i64],
     new: &[i64],
 ) -> Result<Vec<u8>, Memory>
-    ensures { let b = batch.now in IfOk result (λ text. text.items ≡ accepted_lines_of b.number b.added b.removed b.edges old.now new.now) }
+    ensures { let b = batch.now in IfOk result (λ text.
+        text.items ≡ accepted_lines_of b.number b.added b.removed b.edges old.now new.now) }
 {
     let mut out = Vec::new(alloc);
     push_labelled(&mut out, b"batch ", batch.number)?;

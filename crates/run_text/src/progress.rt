@@ -1,10 +1,11 @@
 // A run, batch after batch.
-ghost use Rattle.std.specs.Prelude.{◌≡◌, ◌≢◌, ◌+◌, ◌<◌, ◌≤◌, ◌^◌, ◌⊎◌, length, None, Some, IfOk, IfSome, OnOk, OnErr, MatchResult};
+ghost use Rattle.std.specs.Prelude.{◌≡◌, ◌+◌, ◌<◌, ◌^◌, ◌⊎◌, length, None, Some, IfOk, OnOk, OnErr, MatchResult};
 ghost use Rattle.bolt_base.specs.Graph.{IsGood};
 ghost use Rattle.bolt_base.specs.Edits.{after};
 ghost use Rattle.rank_rows.specs.Rank.{rank_limits};
 ghost use Rattle.run_text.specs.Lines.{refused_line as refused_line_of};
-ghost use Rattle.run_text.specs.Run.{opened, batch_limits, next_number as next_number_of, outcome_of, moved, accepted_text, batch_text, end_text as end_text_of, end_status};
+ghost use Rattle.run_text.specs.Run.{opened, batch_limits, outcome_of, moved, accepted_text, batch_text, end_status};
+ghost use Rattle.run_text.specs.Run.{next_number as next_number_of, end_text as end_text_of};
 
 use crate::lines::{end_lines, refused_line};
 use crate::ranked::Ranked;
@@ -15,7 +16,8 @@ use rank_rows::limits;
 use std::alloc::Global;
 use std::marker::Model;
 
-/// A run between two batches. Each batch is judged on the graph that those before it left, and within the room that the opening gave.
+/// A run between two batches. Each batch is judged on the graph that those before it left, within the room that the opening
+/// gave.
 #[derive(Drop)]
 pub struct Progress {
     began: u32,
@@ -34,7 +36,8 @@ impl Model for Progress {
 
     ghost view = { λ p. record { began = p.began; graph = p.ranked; accepted = p.accepted; refused = p.refused } };
 
-    ghost invariant = { λ p. IsUnderWay (record { began = p.began; graph = p.ranked; accepted = p.accepted; refused = p.refused }) };
+    ghost invariant = { λ p.
+        IsUnderWay (record { began = p.began; graph = p.ranked; accepted = p.accepted; refused = p.refused }) };
 }
 
 impl Progress {
@@ -75,7 +78,8 @@ impl Progress {
     // The graph after a batch, or the line for which the batch is refused.
     fn judge(&self, alloc: Global, batch: &BatchText) -> Result<Result<GraphData, BadLine>, Memory>
         requires { length batch.now.lines ≡ length batch.now.edits }
-        ensures outcome { IfOk result (λ r. MatchResult r (λ _. outcome_of self.now batch.now ≡ None) (λ bad. outcome_of self.now batch.now ≡ Some bad)) }
+        ensures outcome { IfOk result (λ r. MatchResult r
+            (λ _. outcome_of self.now batch.now ≡ None) (λ bad. outcome_of self.now batch.now ≡ Some bad)) }
         ensures after { IfOk result (λ r. IfOk r (λ graph. graph ≡ after self.now.graph batch.now.edits)) }
         ensures good { IfOk result (λ r. IfOk r (λ graph. IsGood (batch_limits self.now) graph)) }
     {

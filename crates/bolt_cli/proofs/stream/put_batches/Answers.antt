@@ -48,7 +48,7 @@ returns-in-Err-put_batch-clause-part g c =
     let P : Option BatchText → Type 0 = λ o. IfSome o (λ x. batches_ahead mid c.batches.reader.feed ≡ option_map (λ rest. x ∷ rest) (batches_ahead later c.next_batch.new.reader.feed)) in
     let is = subst P c.in-Some.is c.in-Ok.ensures.batch in
     let ahead = batch_ahead mid later c.batches.reader.feed c.next_batch.new.reader.feed run b is in
-    up_to-part _ _ _ _ _ c.batches.invariant.so_far (part-behind _ (reply_ahead later c.next_batch.new.reader.feed (moved run b)) (batch_text run b) _ _ ahead c.put_batch.ensures.part)
+    up_to-part _ _ _ _ _ c.batches.invariant.so_far (part-behind (reply_ahead mid c.batches.reader.feed run) (reply_ahead later c.next_batch.new.reader.feed (moved run b)) (batch_text run b) _ _ ahead c.put_batch.ensures.part)
 
 pub returns-in-Err-put_batch-clause-advances : goal.returns-in-Err-put_batch-clause-advances
 returns-in-Err-put_batch-clause-advances g c =
