@@ -33,7 +33,6 @@ use Rattle.vertex_lang.specs.Drafts.{is_full}
 use Rattle.vertex_lang.proofs.Printed.{length-names}
 use Rattle.vertex_lang.proofs.EntryReads.{least_fits, greatest_fits}
 use Rattle.vertex_lang.proofs.GoodDrafts.{IsAttrRange, IsBegun, HasParams, HasLanes, HasTrees, IsGood, IsAdmitted}
-
 use Rattle.vertex_lang.proofs.EntryFacts.{fits_between, RangeFits, range_on, combine_on, pushed, name_pushed, TreeFits, tree_on}
 
 -- what the entries that stand once said stays
@@ -131,12 +130,13 @@ unfolding entry_at param_at
 param_kept d line p h late early room =
     let g = d.entries in
     on_then (λ w. is_name w.bytes ≡ true) (Next d Param) (name_at line p) (λ w. cond (is_taken (names_of g.params) w.bytes) (Err (Repeat w.at)) (signed_at line (behind w) least_i64 greatest_i64 >>= λ x. Ok (record g { params = g.params ++ param w.bytes x.0 ∷ [] }, x.1))) (name_on line p)
-        (λ w is. on_test (Next d Param) (is_taken (names_of g.params) w.bytes) (Err (Repeat w.at)) (signed_at line (behind w) least_i64 greatest_i64 >>= λ x. Ok (record g { params = g.params ++ param w.bytes x.0 ∷ [] }, x.1)) (λ e. tt)
-            (λ free. on_then (λ r. (least_i64 ≤ℤ r.0) × (r.0 ≤ℤ greatest_i64)) (Next d Param) (signed_at line (behind w) least_i64 greatest_i64) (λ x. Ok (record g { params = g.params ++ param w.bytes x.0 ∷ [] }, x.1)) (signed_on line (behind w) least_i64 greatest_i64)
-                (λ x z. pushed_param w.bytes x.0 is free (fits_between x.0 z.0 z.1))))
+    (λ w is. on_test (Next d Param) (is_taken (names_of g.params) w.bytes) (Err (Repeat w.at)) (signed_at line (behind w) least_i64 greatest_i64 >>= λ x. Ok (record g { params = g.params ++ param w.bytes x.0 ∷ [] }, x.1)) (λ e. tt)
+    (λ free. on_then (λ r. (least_i64 ≤ℤ r.0) × (r.0 ≤ℤ greatest_i64)) (Next d Param) (signed_at line (behind w) least_i64 greatest_i64) (λ x. Ok (record g { params = g.params ++ param w.bytes x.0 ∷ [] }, x.1)) (signed_on line (behind w) least_i64 greatest_i64)
+    (λ x z. pushed_param w.bytes x.0 is free (fits_between x.0 z.0 z.1))))
   where
     none : (s : Scope) (ts : List Tree) → ts ≡ [] → All (IsTextTree s) ts
     none s ts e = let P : List Tree → Type 0 = λ l. All (IsTextTree s) l in subst P (sym e) (λ k x l. absurd (omega arith))
+
     pushed_param : (w : List ℕ) (z : ℤ) → is_name w ≡ true → is_taken (names_of d.entries.params) w ≡ false → FitsSigned w64 z → IsGood 9 (record d.entries { params = d.entries.params ++ param w z ∷ [] })
     pushed_param w z is free fits =
         let g = d.entries in
@@ -152,8 +152,12 @@ param_kept d line p h late early room =
           };
           lanes = record { few = h.lanes.few; each = h.lanes.each };
           trees = record {
-            no_init = λ l. h.trees.no_init (omega arith); no_contribute = λ l. h.trees.no_contribute (omega arith); no_apply = λ l. h.trees.no_apply (omega arith);
-            few_init = h.trees.few_init; few_contribute = h.trees.few_contribute; few_apply = h.trees.few_apply;
+            no_init = λ l. h.trees.no_init (omega arith);
+            no_contribute = λ l. h.trees.no_contribute (omega arith);
+            no_apply = λ l. h.trees.no_apply (omega arith);
+            few_init = h.trees.few_init;
+            few_contribute = h.trees.few_contribute;
+            few_apply = h.trees.few_apply;
             init = none (scope_in next InitPart) g.init (h.trees.no_init (omega arith));
             contribute = none (scope_in next ContributePart) g.contribute (h.trees.no_contribute (omega arith));
             apply = none (scope_in next ApplyPart) g.apply (h.trees.no_apply (omega arith));
@@ -165,10 +169,11 @@ unfolding entry_at lane_at
 lane_kept d line p h late early room =
     let g = d.entries in
     on_then (λ _. Unit {0}) (Next d Lane) (index_at line p Lane (length g.ranges)) (λ q. range_at line q greatest_i64 least_i64 >>= λ r. Ok (record g { ranges = g.ranges ++ r.0 ∷ [] }, r.1)) (on_any (index_at line p Lane (length g.ranges)))
-        (λ q u. on_then (RangeFits greatest_i64 least_i64) (Next d Lane) (range_at line q greatest_i64 least_i64) (λ r. Ok (record g { ranges = g.ranges ++ r.0 ∷ [] }, r.1)) (range_on line q greatest_i64 least_i64 (omega (arith, ints))) (λ r i. pushed_lane r.0 i.0))
+    (λ q u. on_then (RangeFits greatest_i64 least_i64) (Next d Lane) (range_at line q greatest_i64 least_i64) (λ r. Ok (record g { ranges = g.ranges ++ r.0 ∷ [] }, r.1)) (range_on line q greatest_i64 least_i64 (omega (arith, ints))) (λ r i. pushed_lane r.0 i.0))
   where
     none : (s : Scope) (ts : List Tree) → ts ≡ [] → All (IsTextTree s) ts
     none s ts e = let P : List Tree → Type 0 = λ l. All (IsTextTree s) l in subst P (sym e) (λ k x l. absurd (omega arith))
+
     pushed_lane : (r : LaneRange) → IsRange r.lo r.hi → IsGood 10 (record d.entries { ranges = d.entries.ranges ++ r ∷ [] })
     pushed_lane r i =
         let g = d.entries in
@@ -179,8 +184,12 @@ lane_kept d line p h late early room =
           params = record { few = h.params.few; names = h.params.names; values = h.params.values };
           lanes = record { few = omega (arith, more); each = pushed (λ (x : LaneRange). IsRange x.lo x.hi) g.ranges r h.lanes.each i };
           trees = record {
-            no_init = λ l. h.trees.no_init (omega arith); no_contribute = λ l. h.trees.no_contribute (omega arith); no_apply = λ l. h.trees.no_apply (omega arith);
-            few_init = let m = h.trees.few_init in omega (arith, more); few_contribute = let m = h.trees.few_contribute in omega (arith, more); few_apply = let m = h.trees.few_apply in omega (arith, more);
+            no_init = λ l. h.trees.no_init (omega arith);
+            no_contribute = λ l. h.trees.no_contribute (omega arith);
+            no_apply = λ l. h.trees.no_apply (omega arith);
+            few_init = let m = h.trees.few_init in omega (arith, more);
+            few_contribute = let m = h.trees.few_contribute in omega (arith, more);
+            few_apply = let m = h.trees.few_apply in omega (arith, more);
             init = none (scope_in next InitPart) g.init (h.trees.no_init (omega arith));
             contribute = none (scope_in next ContributePart) g.contribute (h.trees.no_contribute (omega arith));
             apply = none (scope_in next ApplyPart) g.apply (h.trees.no_apply (omega arith));
@@ -192,48 +201,66 @@ unfolding entry_at
 init_kept d line p h late early =
     let g = d.entries in
     on_then (TreeFits g InitPart (length g.init)) (Next d Init) (tree_at g InitPart Init (length g.init) line p) (λ t. Ok (record g { init = g.init ++ t ∷ [] }, length line)) (tree_on g InitPart Init (length g.init) line p)
-        (λ t w. let less = w.1 in record {
-          begun = kept_begun d.stage 11 g (record g { init = g.init ++ t ∷ [] }) late refl refl refl refl h.begun;
-          params = record { few = h.params.few; names = h.params.names; values = h.params.values };
-          lanes = record { few = h.lanes.few; each = h.lanes.each };
-          trees = record {
-            no_init = λ l. absurd (omega arith); no_contribute = λ l. h.trees.no_contribute (omega arith); no_apply = λ l. h.trees.no_apply (omega arith);
-            few_init = omega (arith, length-append g.init (t ∷ [])); few_contribute = h.trees.few_contribute; few_apply = h.trees.few_apply;
-            init = pushed (IsTextTree (scope_in g InitPart)) g.init t h.trees.init w.0; contribute = h.trees.contribute; apply = h.trees.apply;
-          };
-        })
+    (λ t w. let less = w.1 in record {
+      begun = kept_begun d.stage 11 g (record g { init = g.init ++ t ∷ [] }) late refl refl refl refl h.begun;
+      params = record { few = h.params.few; names = h.params.names; values = h.params.values };
+      lanes = record { few = h.lanes.few; each = h.lanes.each };
+      trees = record {
+        no_init = λ l. absurd (omega arith);
+        no_contribute = λ l. h.trees.no_contribute (omega arith);
+        no_apply = λ l. h.trees.no_apply (omega arith);
+        few_init = omega (arith, length-append g.init (t ∷ []));
+        few_contribute = h.trees.few_contribute;
+        few_apply = h.trees.few_apply;
+        init = pushed (IsTextTree (scope_in g InitPart)) g.init t h.trees.init w.0;
+        contribute = h.trees.contribute;
+        apply = h.trees.apply;
+      };
+    })
 
 contribute_kept : (d : Draft) (line : List ℕ) (p : ℕ) → IsGood d.stage d.entries → 8 ≤ d.stage → d.stage ≤ 12 → On (Next d Contribute) (entry_at d.entries Contribute line p)
 unfolding entry_at
 contribute_kept d line p h late early =
     let g = d.entries in
     on_then (TreeFits g ContributePart (length g.contribute)) (Next d Contribute) (tree_at g ContributePart Contribute (length g.contribute) line p) (λ t. Ok (record g { contribute = g.contribute ++ t ∷ [] }, length line)) (tree_on g ContributePart Contribute (length g.contribute) line p)
-        (λ t w. let less = w.1 in record {
-          begun = kept_begun d.stage 12 g (record g { contribute = g.contribute ++ t ∷ [] }) late refl refl refl refl h.begun;
-          params = record { few = h.params.few; names = h.params.names; values = h.params.values };
-          lanes = record { few = h.lanes.few; each = h.lanes.each };
-          trees = record {
-            no_init = λ l. absurd (omega arith); no_contribute = λ l. absurd (omega arith); no_apply = λ l. h.trees.no_apply (omega arith);
-            few_init = h.trees.few_init; few_contribute = omega (arith, length-append g.contribute (t ∷ [])); few_apply = h.trees.few_apply;
-            init = h.trees.init; contribute = pushed (IsTextTree (scope_in g ContributePart)) g.contribute t h.trees.contribute w.0; apply = h.trees.apply;
-          };
-        })
+    (λ t w. let less = w.1 in record {
+      begun = kept_begun d.stage 12 g (record g { contribute = g.contribute ++ t ∷ [] }) late refl refl refl refl h.begun;
+      params = record { few = h.params.few; names = h.params.names; values = h.params.values };
+      lanes = record { few = h.lanes.few; each = h.lanes.each };
+      trees = record {
+        no_init = λ l. absurd (omega arith);
+        no_contribute = λ l. absurd (omega arith);
+        no_apply = λ l. h.trees.no_apply (omega arith);
+        few_init = h.trees.few_init;
+        few_contribute = omega (arith, length-append g.contribute (t ∷ []));
+        few_apply = h.trees.few_apply;
+        init = h.trees.init;
+        contribute = pushed (IsTextTree (scope_in g ContributePart)) g.contribute t h.trees.contribute w.0;
+        apply = h.trees.apply;
+      };
+    })
 
 apply_kept : (d : Draft) (line : List ℕ) (p : ℕ) → IsGood d.stage d.entries → 8 ≤ d.stage → d.stage ≤ 13 → On (Next d Apply) (entry_at d.entries Apply line p)
 unfolding entry_at
 apply_kept d line p h late early =
     let g = d.entries in
     on_then (TreeFits g ApplyPart (length g.apply)) (Next d Apply) (tree_at g ApplyPart Apply (length g.apply) line p) (λ t. Ok (record g { apply = g.apply ++ t ∷ [] }, length line)) (tree_on g ApplyPart Apply (length g.apply) line p)
-        (λ t w. let less = w.1 in record {
-          begun = kept_begun d.stage 13 g (record g { apply = g.apply ++ t ∷ [] }) late refl refl refl refl h.begun;
-          params = record { few = h.params.few; names = h.params.names; values = h.params.values };
-          lanes = record { few = h.lanes.few; each = h.lanes.each };
-          trees = record {
-            no_init = λ l. absurd (omega arith); no_contribute = λ l. absurd (omega arith); no_apply = λ l. absurd (omega arith);
-            few_init = h.trees.few_init; few_contribute = h.trees.few_contribute; few_apply = omega (arith, length-append g.apply (t ∷ []));
-            init = h.trees.init; contribute = h.trees.contribute; apply = pushed (IsTextTree (scope_in g ApplyPart)) g.apply t h.trees.apply w.0;
-          };
-        })
+    (λ t w. let less = w.1 in record {
+      begun = kept_begun d.stage 13 g (record g { apply = g.apply ++ t ∷ [] }) late refl refl refl refl h.begun;
+      params = record { few = h.params.few; names = h.params.names; values = h.params.values };
+      lanes = record { few = h.lanes.few; each = h.lanes.each };
+      trees = record {
+        no_init = λ l. absurd (omega arith);
+        no_contribute = λ l. absurd (omega arith);
+        no_apply = λ l. absurd (omega arith);
+        few_init = h.trees.few_init;
+        few_contribute = h.trees.few_contribute;
+        few_apply = omega (arith, length-append g.apply (t ∷ []));
+        init = h.trees.init;
+        contribute = h.trees.contribute;
+        apply = pushed (IsTextTree (scope_in g ApplyPart)) g.apply t h.trees.apply w.0;
+      };
+    })
 
 few_params : (g : ProgramEntries) → is_full g Param ≡ false → length g.params < 64
 unfolding is_full

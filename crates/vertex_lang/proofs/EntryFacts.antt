@@ -47,10 +47,13 @@ max_above a b = pick (int_lt b a) refl
   where
     same : (z : ℤ) → z ≤ℤ z
     same z = omega (arith, ints)
+
     first : (a b : ℤ) → int_lt b a ≡ true → b ≤ℤ a
     first a b e = grind (arith, ints)
+
     second : (a b : ℤ) → int_lt b a ≡ false → a ≤ℤ b
     second a b e = grind (arith, ints)
+
     pick : (t : Bool) → int_lt b a ≡ t → (a ≤ℤ cond t a b) × (b ≤ℤ cond t a b)
     pick true e = (same a, first a b e)
     pick false e = (second a b e, same b)
@@ -63,11 +66,11 @@ pub range_on : (line : List ℕ) (from : ℕ) (lo_most hi_least : ℤ) → lo_mo
 unfolding range_at
 range_on line from lo_most hi_least high =
     on_then (λ r. (least_i64 ≤ℤ r.0) × (r.0 ≤ℤ lo_most)) (RangeFits lo_most hi_least) (signed_at line from least_i64 lo_most) (λ lo. signed_at line lo.1 (int_max lo.0 hi_least) greatest_i64 >>= λ hi. Ok (record { lo = lo.0; hi = hi.0 }, hi.1)) (signed_on line from least_i64 lo_most)
-        (λ lo h. on_then (λ r. (int_max lo.0 hi_least ≤ℤ r.0) × (r.0 ≤ℤ greatest_i64)) (RangeFits lo_most hi_least) (signed_at line lo.1 (int_max lo.0 hi_least) greatest_i64) (λ hi. Ok (record { lo = lo.0; hi = hi.0 }, hi.1)) (signed_on line lo.1 (int_max lo.0 hi_least) greatest_i64)
-            (λ hi i.
-                let m = max_above lo.0 hi_least in
-                let up : lo.0 ≤ℤ hi.0 = at_most lo.0 (int_max lo.0 hi_least) hi.0 m.0 i.0 in
-                (record { lo_fits = fits_between lo.0 h.0 (at_most lo.0 lo_most greatest_i64 h.1 high); hi_fits = fits_between hi.0 (at_most least_i64 lo.0 hi.0 h.0 up) i.1; order = up }, h.1, at_most hi_least (int_max lo.0 hi_least) hi.0 m.1 i.0)))
+    (λ lo h. on_then (λ r. (int_max lo.0 hi_least ≤ℤ r.0) × (r.0 ≤ℤ greatest_i64)) (RangeFits lo_most hi_least) (signed_at line lo.1 (int_max lo.0 hi_least) greatest_i64) (λ hi. Ok (record { lo = lo.0; hi = hi.0 }, hi.1)) (signed_on line lo.1 (int_max lo.0 hi_least) greatest_i64)
+    (λ hi i.
+    let m = max_above lo.0 hi_least in
+    let up : lo.0 ≤ℤ hi.0 = at_most lo.0 (int_max lo.0 hi_least) hi.0 m.0 i.0 in
+    (record { lo_fits = fits_between lo.0 h.0 (at_most lo.0 lo_most greatest_i64 h.1 high); hi_fits = fits_between hi.0 (at_most least_i64 lo.0 hi.0 h.0 up) i.1; order = up }, h.1, at_most hi_least (int_max lo.0 hi_least) hi.0 m.1 i.0)))
 
 pub combine_on : (line : List ℕ) (from : ℕ) → On (λ r. IsCombination r.0) (combine_at line from)
 unfolding combine_at
@@ -90,17 +93,23 @@ name_pushed ns w h is free = record { form = λ k l. form k (nat_lt k (length ns
   where
     below : (k n : ℕ) → nat_lt k n ≡ true → k < n
     below k n e = grind (arith, nat_tests)
+
     last : (k n : ℕ) → nat_lt k n ≡ false → k < n + 1 → n ≡ k
     last k n e l = grind (arith, nat_tests)
+
     at_last : (k : ℕ) → length ns ≡ k → param_name (ns ++ w ∷ []) k ≡ w
     at_last k e = ap (param_name (ns ++ w ∷ [])) (sym e) ∙ get_or-append_seam ns w [] []
+
     long : length (ns ++ w ∷ []) ≡ length ns + 1
     long = length-append ns (w ∷ [])
+
     before : (k : ℕ) → k < length ns → param_name (ns ++ w ∷ []) k ≡ param_name ns k
     before k l = get_or_append_left ns (w ∷ []) [] k l
+
     form : (k : ℕ) (b : Bool) → nat_lt k (length ns) ≡ b → k < length (ns ++ w ∷ []) → is_name (param_name (ns ++ w ∷ []) k) ≡ true
     form k true e l = let m = below k (length ns) e in ap is_name (before k m) ∙ h.form k m
     form k false e l = ap is_name (at_last k (last k (length ns) e (omega (arith, long)))) ∙ is
+
     new : (k : ℕ) (b : Bool) → nat_lt k (length ns) ≡ b → k < length (ns ++ w ∷ []) → is_taken (take k (ns ++ w ∷ [])) (param_name (ns ++ w ∷ []) k) ≡ false
     new k true e l =
         let m = below k (length ns) e in
@@ -124,11 +133,13 @@ place_on line from next lanes k = on_then (λ _. Unit {0}) (λ _. next < lanes) 
   where
     low : (lanes n : ℕ) → nat_le lanes n ≡ false → n < lanes
     low lanes n e = grind (arith, nat_tests)
+
     same : (a b : ℕ) → nat_lt a b ≡ false → nat_lt b a ≡ false → a < lanes → b < lanes
     same a b e f h = let g = meet a b e f in omega arith
       where
         meet : (a b : ℕ) → nat_lt a b ≡ false → nat_lt b a ≡ false → a ≡ b
         meet a b e f = grind (arith, nat_tests)
+
     number : (w : Word) (o : Option ℕ) → On (λ _. next < lanes) (below_lanes lanes w o >>= λ u. index_of k next w o)
     number w None = tt
     number w (Some n) = test (nat_le lanes n) refl
@@ -142,4 +153,4 @@ pub tree_on : (g : ProgramEntries) (part : Part) (k : Keyword) (next : ℕ) (lin
 unfolding tree_at
 tree_on g part k next line from =
     on_then (λ _. next < length g.ranges) (TreeFits g part next) (place_at line from k next (length g.ranges)) (λ p. expression_at (scope_in g part) line p) (place_on line from next (length g.ranges) k)
-        (λ p l. on_of (TreeFits g part next) (expression_at (scope_in g part) line p) (λ t e. (expression_fits (scope_in g part) line p t e, l)))
+    (λ p l. on_of (TreeFits g part next) (expression_at (scope_in g part) line p) (λ t e. (expression_fits (scope_in g part) line p t e, l)))

@@ -91,11 +91,12 @@ range_reads line p lo hi lo_most hi_least cut h most least =
     let p2 = p1 + 1 + length b in
     let cut1 : drop p1 line ≡ 32 ∷ (b ++ []) = last_field line b p1 (behind_word line a (spaced b) p cut) in
     let one = next_signed line (spaced b) p lo least_i64 lo_most cut h.lo_fits (least_fits lo h.lo_fits) most refl in
-    let two = next_signed line [] p1 hi (int_max lo hi_least) greatest_i64 cut1 h.hi_fits (max_below lo hi_least hi h.order least) (greatest_fits hi h.hi_fits) tt in
-    (p2,
-     ap (λ (o : Result (ℤ × ℕ) LangError). o >>= λ x. Rattle.text_words.specs.Fields.signed_at line x.1 (int_max x.0 hi_least) greatest_i64 >>= λ y. Ok (record { lo = x.0; hi = y.0 }, y.1)) one
-     ∙ ap (λ (o : Result (ℤ × ℕ) LangError). o >>= λ y. Ok (record { lo = lo; hi = y.0 }, y.1)) two,
-     behind_word line b [] p1 cut1)
+    let two = next_signed line [] p1 hi (int_max lo hi_least) greatest_i64 cut1 h.hi_fits (max_below lo hi_least hi h.order least) (greatest_fits hi h.hi_fits) tt in (
+      p2,
+      ap (λ (o : Result (ℤ × ℕ) LangError). o >>= λ x. Rattle.text_words.specs.Fields.signed_at line x.1 (int_max x.0 hi_least) greatest_i64 >>= λ y. Ok (record { lo = x.0; hi = y.0 }, y.1)) one
+          ∙ ap (λ (o : Result (ℤ × ℕ) LangError). o >>= λ y. Ok (record { lo = lo; hi = y.0 }, y.1)) two,
+      behind_word line b [] p1 cut1,
+    )
 
 pub name_done : (g : ProgramEntries) (text w : List ℕ) (from : ℕ) → drop from text ≡ spaced w → is_name w ≡ true → Done (entry_at g Program text from) (record g { name = w }) text
 unfolding entry_at
@@ -171,14 +172,18 @@ combine_done g text Sum from cut h =
 combine_done g text (Min e) from cut h =
     let cut1 = behind_word text (codes "min") (spaced (signed_decimal e)) from cut in
     let r = empty_reads text (from + 1 + 3) e cut1 h in
-    record { at = from + 1 + 3 + 1 + length (signed_decimal e);
+    record {
+      at = from + 1 + 3 + 1 + length (signed_decimal e);
       is = ap (λ (o : Result Word LangError). (o >>= combine_of text) >>= λ x. Ok (record g { combine = x.0 }, x.1)) (next_word text (codes "min") (spaced (signed_decimal e)) from cut min_word refl)
-        ∙ ap (λ (o : Result (ℤ × ℕ) LangError). (o >>= λ y. let p : Combine × ℕ = (Min y.0, y.1) in Ok p) >>= λ x. Ok (record g { combine = x.0 }, x.1)) r.0;
-      end = r.1 }
+          ∙ ap (λ (o : Result (ℤ × ℕ) LangError). (o >>= λ y. let p : Combine × ℕ = (Min y.0, y.1) in Ok p) >>= λ x. Ok (record g { combine = x.0 }, x.1)) r.0;
+      end = r.1;
+    }
 combine_done g text (Max e) from cut h =
     let cut1 = behind_word text (codes "max") (spaced (signed_decimal e)) from cut in
     let r = empty_reads text (from + 1 + 3) e cut1 h in
-    record { at = from + 1 + 3 + 1 + length (signed_decimal e);
+    record {
+      at = from + 1 + 3 + 1 + length (signed_decimal e);
       is = ap (λ (o : Result Word LangError). (o >>= combine_of text) >>= λ x. Ok (record g { combine = x.0 }, x.1)) (next_word text (codes "max") (spaced (signed_decimal e)) from cut max_word refl)
-        ∙ ap (λ (o : Result (ℤ × ℕ) LangError). (o >>= λ y. let p : Combine × ℕ = (Max y.0, y.1) in Ok p) >>= λ x. Ok (record g { combine = x.0 }, x.1)) r.0;
-      end = r.1 }
+          ∙ ap (λ (o : Result (ℤ × ℕ) LangError). (o >>= λ y. let p : Combine × ℕ = (Max y.0, y.1) in Ok p) >>= λ x. Ok (record g { combine = x.0 }, x.1)) r.0;
+      end = r.1;
+    }

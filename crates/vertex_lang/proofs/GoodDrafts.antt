@@ -83,10 +83,13 @@ once_order s few = pick (s == 0) (s == 1) (s == 2) (s == 3) (s == 4) (s == 5) (s
   where
     is : (n m : ℕ) → (n == m) ≡ true → m ≡ n
     is n m e = grind (arith, nat_tests)
+
     isnt : (n m : ℕ) → (n == m) ≡ false → n ≡ m → ⊥
     isnt n m e f = grind (arith, nat_tests)
+
     seven : (n : ℕ) → n < 8 → (n == 0) ≡ false → (n == 1) ≡ false → (n == 2) ≡ false → (n == 3) ≡ false → (n == 4) ≡ false → (n == 5) ≡ false → (n == 6) ≡ false → 7 ≡ n
     seven n h a b c d e f g = grind (arith, nat_tests)
+
     pick : (a b c d e f g : Bool) → (s == 0) ≡ a → (s == 1) ≡ b → (s == 2) ≡ c → (s == 3) ≡ d → (s == 4) ≡ e → (s == 5) ≡ f → (s == 6) ≡ g → order (chosen a b c d e f g) ≡ s
     pick true b c d e f g h0 h1 h2 h3 h4 h5 h6 = is s 0 h0
     pick false true c d e f g h0 h1 h2 h3 h4 h5 h6 = is s 1 h1
@@ -104,25 +107,32 @@ in_order d k new u due = split (nat_lt d.stage 8) refl due
   where
     rest : Option Keyword
     rest = cond (length d.entries.ranges == 0) (Some Lane) (cond (nat_lt (length d.entries.init) (length d.entries.ranges)) (Some Init) (cond (nat_lt (length d.entries.contribute) (length d.entries.ranges)) (Some Contribute) (cond (nat_lt (length d.entries.apply) (length d.entries.ranges)) (Some Apply) None)))
+
     not_before : (w k : Keyword) → (let o : Result (Unit {0}) LangError = Ok tt in due_before (Some w) k ≡ o) → order k ≤ order w
     not_before w k e = test (nat_lt (order w) (order k)) refl e
       where
         low : (a b : ℕ) → nat_lt a b ≡ false → b ≤ a
         low a b e = grind (arith, nat_tests)
+
         test : (b : Bool) → nat_lt (order w) (order k) ≡ b → (let o : Result (Unit {0}) LangError = Ok tt in cond b (Err (Missing w)) (Ok tt) ≡ o) → order k ≤ order w
         test true e f = absurd (let no : ⊥ = cc in no)
         test false e f = low (order w) (order k) e
+
     below : (a b : ℕ) → nat_lt a b ≡ true → a < b
     below a b e = grind (arith, nat_tests)
+
     above : (a b : ℕ) → nat_lt a b ≡ false → b ≤ a
     above a b e = grind (arith, nat_tests)
+
     passed : (o s : ℕ) → cond (nat_lt (o + 1) s) true (cond (o + 1 == s) (nat_lt o 8) false) ≡ false → (o < 8 → s ≤ o) × (s ≤ o + 1)
     passed o s e = (λ h. first o s e h, second o s e)
       where
         first : (o s : ℕ) → cond (nat_lt (o + 1) s) true (cond (o + 1 == s) (nat_lt o 8) false) ≡ false → o < 8 → s ≤ o
         first o s e h = grind (arith, nat_tests)
+
         second : (o s : ℕ) → cond (nat_lt (o + 1) s) true (cond (o + 1 == s) (nat_lt o 8) false) ≡ false → s ≤ o + 1
         second o s e = grind (arith, nat_tests)
+
     split : (b : Bool) → nat_lt d.stage 8 ≡ b → (let o : Result (Unit {0}) LangError = Ok tt in due_before (cond b (Some (once_at d.stage)) rest) k ≡ o) → IsInOrder d.stage (order k)
     split true e f =
         let few : d.stage < 8 = below d.stage 8 e in
@@ -142,7 +152,7 @@ pub admitted_on : (d : Draft) (k : Keyword) (at : ℕ) → On (λ _. IsAdmitted 
 unfolding admitted
 admitted_on d k at =
     on_test (λ _. IsAdmitted d k) (is_past d k) (Err (Repeat at)) (due_before (first_due d) k >>= λ u. room_for d k at) (λ e. tt)
-        (λ new. from_due (due_before (first_due d) k) refl new)
+    (λ new. from_due (due_before (first_due d) k) refl new)
   where
     from_due : (o : Result (Unit {0}) LangError) → due_before (first_due d) k ≡ o → is_past d k ≡ false → On (λ _. IsAdmitted d k) (o >>= λ u. room_for d k at)
     from_due (Err x) e new = tt
@@ -191,5 +201,6 @@ writable d h due =
   where
     above : (a b : ℕ) → nat_lt a b ≡ false → b ≤ a
     above a b e = grind (arith, nat_tests)
+
     positive : (n : ℕ) → (n == 0) ≡ false → 1 ≤ n
     positive n e = grind (arith, nat_tests)

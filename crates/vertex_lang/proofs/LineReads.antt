@@ -55,9 +55,9 @@ lines_behind : (d e : Draft) (ls : List (List ℕ)) (before : List ℕ) → Step
 lines_behind d e [] before h = ap (λ (x : Draft). let o : Result Draft LangError = Ok x in o) h
 lines_behind d e (l ∷ ls) before h =
     line_reads d h.0 before l (ended_lines ls) (Ok e) h.1
-        (ap (λ (text : List ℕ). lines_read h.0 text (lines_from 0 (length (before ++ (l ++ 10 ∷ []))) (ended_lines ls)))
-            (sym (append_assoc before (l ++ 10 ∷ []) (ended_lines ls) ∙ ap (λ (x : List ℕ). before ++ x) (append_assoc l (10 ∷ []) (ended_lines ls))))
-         ∙ lines_behind h.0 e ls (before ++ (l ++ 10 ∷ [])) h.2)
+    (ap (λ (text : List ℕ). lines_read h.0 text (lines_from 0 (length (before ++ (l ++ 10 ∷ []))) (ended_lines ls)))
+    (sym (append_assoc before (l ++ 10 ∷ []) (ended_lines ls) ∙ ap (λ (x : List ℕ). before ++ x) (append_assoc l (10 ∷ []) (ended_lines ls))))
+    ∙ lines_behind h.0 e ls (before ++ (l ++ 10 ∷ [])) h.2)
 
 -- a text of such lines
 pub all_lines : (d e : Draft) (ls : List (List ℕ)) → Steps d ls e → lines_read d (ended_lines ls) (lines_from 0 0 (ended_lines ls)) ≡ Ok e

@@ -72,8 +72,8 @@ param_done g text q from cut is free fits =
     record {
       at = p1 + 1 + length (signed_decimal q.value);
       is = ap (λ (o : Result Word LangError). o >>= F) (next_name text w (spaced (signed_decimal q.value)) from cut is refl)
-        ∙ ap (λ b. cond b (Err (Repeat (from + 1))) (signed_at text p1 least_i64 greatest_i64 >>= λ x. Ok (record g { params = g.params ++ param w x.0 ∷ [] }, x.1))) free
-        ∙ ap (λ (o : Result (ℤ × ℕ) LangError). o >>= λ x. Ok (record g { params = g.params ++ param w x.0 ∷ [] }, x.1)) (next_signed text [] p1 q.value least_i64 greatest_i64 last fits (least_fits q.value fits) (greatest_fits q.value fits) tt);
+          ∙ ap (λ b. cond b (Err (Repeat (from + 1))) (signed_at text p1 least_i64 greatest_i64 >>= λ x. Ok (record g { params = g.params ++ param w x.0 ∷ [] }, x.1))) free
+          ∙ ap (λ (o : Result (ℤ × ℕ) LangError). o >>= λ x. Ok (record g { params = g.params ++ param w x.0 ∷ [] }, x.1)) (next_signed text [] p1 q.value least_i64 greatest_i64 last fits (least_fits q.value fits) (greatest_fits q.value fits) tt);
       end = behind_word text (signed_decimal q.value) [] p1 last;
     }
 
@@ -103,11 +103,11 @@ params_read g names values few =
         let count : length done < 64 = omega (arith, middle_below done rest x, ap (λ (l : List NamedParam). length l) is) in
         let d = draft_of g s done [] in
         reads_entry d (codes "param") (spaced (x.name ++ spaced (signed_decimal x.value))) Param (record d.entries { params = done ++ x ∷ [] }) param_word
-            (passes-append is_printed (codes "param ") (x.name ++ spaced (signed_decimal x.value)) (refl, (refl, (refl, (refl, (refl, (refl, tt))))))
-                (passes-append is_printed x.name (spaced (signed_decimal x.value)) (name_printed x.name form) (refl, signed_printed x.value fits)))
-            refl param_key
-            (λ at. admitted_by d Param at (not_past d Param most (omega arith)) (due_is d Lane Param (due_lane d least refl) (omega arith)) (room d count))
-            (λ text from cut. param_done d.entries text x from cut form free fits)
+        (passes-append is_printed (codes "param ") (x.name ++ spaced (signed_decimal x.value)) (refl, (refl, (refl, (refl, (refl, (refl, tt))))))
+        (passes-append is_printed x.name (spaced (signed_decimal x.value)) (name_printed x.name form) (refl, signed_printed x.value fits)))
+        refl param_key
+        (λ at. admitted_by d Param at (not_past d Param most (omega arith)) (due_is d Lane Param (due_lane d least refl) (omega arith)) (room d count))
+        (λ text from cut. param_done d.entries text x from cut form free fits)
 
 -- the next number
 pub index_reads : (line rest : List ℕ) (p next : ℕ) (k : Keyword) → drop p line ≡ spaced (decimal next ++ spaced rest) → next < 2 ^ 64 → index_at line p k next ≡ Ok (p + 1 + length (decimal next))
@@ -119,6 +119,7 @@ index_reads line rest p next k cut small =
   where
     not_below : (n : ℕ) → nat_lt n n ≡ false
     not_below n = grind (arith, nat_tests)
+
     index_is : (k : Keyword) (n : ℕ) (w : Word) → index_of k n w (Some n) ≡ Ok (behind w)
     index_is k n w = ap (λ b. cond b (Err (Repeat w.at)) (cond (nat_lt n n) (Err (Missing k)) (Ok (behind w)))) (not_below n) ∙ ap (λ b. cond b (Err (Missing k)) (Ok (behind w))) (not_below n)
 
@@ -132,8 +133,8 @@ lane_done g text r k from count small cut h =
     record {
       at = q.0;
       is = ap (λ (n : ℕ). index_at text from Lane n >>= λ p. range_at text p greatest_i64 least_i64 >>= λ x. Ok (record g { ranges = g.ranges ++ x.0 ∷ [] }, x.1)) (sym count)
-        ∙ ap (λ (o : Result ℕ LangError). o >>= λ p. range_at text p greatest_i64 least_i64 >>= λ x. Ok (record g { ranges = g.ranges ++ x.0 ∷ [] }, x.1)) (index_reads text rest from k Lane cut (omega arith))
-        ∙ ap (λ (o : Result (LaneRange × ℕ) LangError). o >>= λ x. Ok (record g { ranges = g.ranges ++ x.0 ∷ [] }, x.1)) q.1;
+          ∙ ap (λ (o : Result ℕ LangError). o >>= λ p. range_at text p greatest_i64 least_i64 >>= λ x. Ok (record g { ranges = g.ranges ++ x.0 ∷ [] }, x.1)) (index_reads text rest from k Lane cut (omega arith))
+          ∙ ap (λ (o : Result (LaneRange × ℕ) LangError). o >>= λ x. Ok (record g { ranges = g.ranges ++ x.0 ∷ [] }, x.1)) q.1;
       end = q.2;
     }
 
@@ -145,6 +146,7 @@ lanes_read g s late early ranges few =
     due : (d : Draft) → 8 ≤ d.stage → length d.entries.init ≡ 0 → (n : ℕ) → length d.entries.ranges ≡ n → Rattle.vertex_lang.specs.Drafts.due_before (Rattle.vertex_lang.specs.Drafts.first_due d) Lane ≡ Ok tt
     due d late empty zero e = due_is d Lane Lane (due_lane d late e) (omega arith)
     due d late empty (suc n) e = due_is d Rattle.text_words.specs.declared.error.Keyword.TheVariants.Init Lane (due_init d late (omega arith)) (omega arith)
+
     each : (t : ℕ) (done : List LaneRange) (x : LaneRange) (rest : List LaneRange) → done ++ x ∷ rest ≡ g.ranges → 8 ≤ t → t ≤ 10 → Reads (draft_of g t g.params done) (lane_line (length done) x) (draft_of g 10 g.params (done ++ x ∷ []))
     each t done x rest is least most =
         let h : IsRange x.lo x.hi = all_middle (λ (r : LaneRange). IsRange r.lo r.hi) g.ranges done rest x is ranges in
@@ -154,9 +156,9 @@ lanes_read g s late early ranges few =
         let low = signed_decimal x.lo in
         let high = signed_decimal x.hi in
         reads_entry d (codes "lane") (spaced (decimal k ++ spaced (low ++ spaced high))) Lane (record d.entries { ranges = done ++ x ∷ [] }) lane_word
-            (passes-append is_printed (codes "lane ") (decimal k ++ spaced (low ++ spaced high)) (refl, (refl, (refl, (refl, (refl, tt)))))
-                (passes-append is_printed (decimal k) (spaced (low ++ spaced high)) (decimal_printed k (omega arith))
-                    (refl, passes-append is_printed low (spaced high) (signed_printed x.lo h.lo_fits) (refl, signed_printed x.hi h.hi_fits))))
-            refl lane_key
-            (λ at. admitted_by d Lane at (not_past d Lane most (omega arith)) (due d least refl (length done) refl) (lane_room d count))
-            (λ text from cut. lane_done d.entries text x k from refl count cut h)
+        (passes-append is_printed (codes "lane ") (decimal k ++ spaced (low ++ spaced high)) (refl, (refl, (refl, (refl, (refl, tt)))))
+        (passes-append is_printed (decimal k) (spaced (low ++ spaced high)) (decimal_printed k (omega arith))
+        (refl, passes-append is_printed low (spaced high) (signed_printed x.lo h.lo_fits) (refl, signed_printed x.hi h.hi_fits))))
+        refl lane_key
+        (λ at. admitted_by d Lane at (not_past d Lane most (omega arith)) (due d least refl (length done) refl) (lane_room d count))
+        (λ text from cut. lane_done d.entries text x k from refl count cut h)

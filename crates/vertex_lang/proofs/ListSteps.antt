@@ -28,7 +28,7 @@ list_steps draft line lines all low high order nil cons each s done (x ∷ xs) k
     let same : next ++ xs ≡ done ++ x ∷ xs = append_assoc done (x ∷ []) xs in
     let longer : k + 1 ≡ length next = omega (arith, length-append done (x ∷ [])) in
     let rest : Steps (draft high next) (lines (k + 1) xs) (draft (after high high xs) (next ++ xs)) =
-        list_steps draft line lines all low high order nil cons each high next xs (k + 1) (same ∙ is) order (omega arith) longer in
+    list_steps draft line lines all low high order nil cons each high next xs (k + 1) (same ∙ is) order (omega arith) longer in
     let E : Draft → Type 0 = λ e. Steps (draft high next) (lines (k + 1) xs) e in
     let rest' : Steps (draft high next) (lines (k + 1) xs) (draft high (done ++ x ∷ xs)) = subst E (λ i. draft (after-same high xs i) (same i)) rest in
     let K : ℕ → Type 0 = λ n. Reads (draft s done) (line n x) (draft high next) in

@@ -103,7 +103,7 @@ number_printed w n h small = passes-append is_printed w (spaced (decimal n)) h (
 range_printed : (w : List ℕ) (lo hi : ℤ) → Passes is_printed w → IsRange lo hi → Passes is_printed (range_line w lo hi)
 range_printed w lo hi h r =
     passes-append is_printed w (spaced (signed_decimal lo ++ spaced (signed_decimal hi))) h
-        (refl, passes-append is_printed (signed_decimal lo) (spaced (signed_decimal hi)) (signed_printed lo r.lo_fits) (refl, signed_printed hi r.hi_fits))
+    (refl, passes-append is_printed (signed_decimal lo) (spaced (signed_decimal hi)) (signed_printed lo r.lo_fits) (refl, signed_printed hi r.hi_fits))
 
 combine_printed : (c : Combine) → IsCombination c → Passes is_printed (codes "combine" ++ combination c)
 combine_printed Sum h = (refl, (refl, (refl, (refl, (refl, (refl, (refl, (refl, (refl, (refl, (refl, tt)))))))))))
@@ -131,21 +131,36 @@ once_read g h =
     let g5 : ProgramEntries = record g4 { limits = record g4.limits { weight_lo = l.weight_lo; weight_hi = l.weight_hi } } in
     let g6 : ProgramEntries = record g5 { limits = record g5.limits { attr_lo = l.attr_lo; attr_hi = l.attr_hi } } in
     let g7 : ProgramEntries = record g6 { rounds = g.rounds } in
-    let g8 : ProgramEntries = record g7 { combine = g.combine } in
-    (at_stage 1 g1,
-     reads_entry (at_stage 0 g0) (codes "program") (spaced g.name) Program g1 program_word (passes-append is_printed (codes "program ") g.name (refl, (refl, (refl, (refl, (refl, (refl, (refl, (refl, tt)))))))) (name_printed g.name h.name)) refl program_key (λ at. once_may Program g0 at (omega arith)) (λ text from cut. name_done g0 text g.name from cut h.name),
-    (at_stage 2 g2,
-     reads_entry (at_stage 1 g1) (codes "vertices") (spaced (decimal l.vertices)) Vertices g2 vertices_word (number_printed (codes "vertices") l.vertices (refl, (refl, (refl, (refl, (refl, (refl, (refl, (refl, tt)))))))) (let m = h.limits.vertices.most in omega arith)) refl vertices_key (λ at. once_may Vertices g1 at (omega arith)) (λ text from cut. vertices_done g1 text l.vertices from cut h.limits.vertices),
-    (at_stage 3 g3,
-     reads_entry (at_stage 2 g2) (codes "degree") (spaced (decimal l.degree)) Degree g3 degree_word (number_printed (codes "degree") l.degree (refl, (refl, (refl, (refl, (refl, (refl, tt)))))) (let m = h.limits.degree.most in omega arith)) refl degree_key (λ at. once_may Degree g2 at (omega arith)) (λ text from cut. degree_done g2 text l.degree from cut h.limits.degree),
-    (at_stage 4 g4,
-     reads_entry (at_stage 3 g3) (codes "edges") (spaced (decimal l.edges)) Edges g4 edges_word (number_printed (codes "edges") l.edges (refl, (refl, (refl, (refl, (refl, tt))))) (let m = h.limits.edges.most in omega arith)) refl edges_key (λ at. once_may Edges g3 at (omega arith)) (λ text from cut. edges_done g3 text l.edges from cut h.limits.edges),
-    (at_stage 5 g5,
-     reads_entry (at_stage 4 g4) (codes "weight") (spaced (signed_decimal l.weight_lo ++ spaced (signed_decimal l.weight_hi))) Weight g5 weight_word (range_printed (codes "weight") l.weight_lo l.weight_hi (refl, (refl, (refl, (refl, (refl, (refl, tt)))))) h.limits.weight) refl weight_key (λ at. once_may Weight g4 at (omega arith)) (λ text from cut. weight_done g4 text l.weight_lo l.weight_hi from cut h.limits.weight),
-    (at_stage 6 g6,
-     reads_entry (at_stage 5 g5) (codes "attr") (spaced (signed_decimal l.attr_lo ++ spaced (signed_decimal l.attr_hi))) Attr g6 attr_word (range_printed (codes "attr") l.attr_lo l.attr_hi (refl, (refl, (refl, (refl, tt)))) h.limits.attr) refl attr_key (λ at. once_may Attr g5 at (omega arith)) (λ text from cut. attr_done g5 text l.attr_lo l.attr_hi from cut h.limits.attr h.limits.attr_least h.limits.attr_most),
-    (at_stage 7 g7,
-     reads_entry (at_stage 6 g6) (codes "rounds") (spaced (decimal g.rounds)) Rounds g7 rounds_word (number_printed (codes "rounds") g.rounds (refl, (refl, (refl, (refl, (refl, (refl, tt)))))) (let m = h.rounds.most in omega arith)) refl rounds_key (λ at. once_may Rounds g6 at (omega arith)) (λ text from cut. rounds_done g6 text g.rounds from cut h.rounds),
-    (at_stage 8 g8,
-     combine_reads (at_stage 7 g7) (at_stage 8 g8) g.combine (reads_entry (at_stage 7 g7) (codes "combine") (combination g.combine) CombineWord g8 combine_word (combine_printed g.combine h.combine) (combination_end g.combine) combine_key (λ at. once_may CombineWord g7 at (omega arith)) (λ text from cut. combine_done g7 text g.combine from cut h.combine)),
-     refl))))))))
+    let g8 : ProgramEntries = record g7 { combine = g.combine } in (
+      at_stage 1 g1,
+      reads_entry (at_stage 0 g0) (codes "program") (spaced g.name) Program g1 program_word (passes-append is_printed (codes "program ") g.name (refl, (refl, (refl, (refl, (refl, (refl, (refl, (refl, tt)))))))) (name_printed g.name h.name)) refl program_key (λ at. once_may Program g0 at (omega arith)) (λ text from cut. name_done g0 text g.name from cut h.name),
+      (
+        at_stage 2 g2,
+        reads_entry (at_stage 1 g1) (codes "vertices") (spaced (decimal l.vertices)) Vertices g2 vertices_word (number_printed (codes "vertices") l.vertices (refl, (refl, (refl, (refl, (refl, (refl, (refl, (refl, tt)))))))) (let m = h.limits.vertices.most in omega arith)) refl vertices_key (λ at. once_may Vertices g1 at (omega arith)) (λ text from cut. vertices_done g1 text l.vertices from cut h.limits.vertices),
+        (
+          at_stage 3 g3,
+          reads_entry (at_stage 2 g2) (codes "degree") (spaced (decimal l.degree)) Degree g3 degree_word (number_printed (codes "degree") l.degree (refl, (refl, (refl, (refl, (refl, (refl, tt)))))) (let m = h.limits.degree.most in omega arith)) refl degree_key (λ at. once_may Degree g2 at (omega arith)) (λ text from cut. degree_done g2 text l.degree from cut h.limits.degree),
+          (
+            at_stage 4 g4,
+            reads_entry (at_stage 3 g3) (codes "edges") (spaced (decimal l.edges)) Edges g4 edges_word (number_printed (codes "edges") l.edges (refl, (refl, (refl, (refl, (refl, tt))))) (let m = h.limits.edges.most in omega arith)) refl edges_key (λ at. once_may Edges g3 at (omega arith)) (λ text from cut. edges_done g3 text l.edges from cut h.limits.edges),
+            (
+              at_stage 5 g5,
+              reads_entry (at_stage 4 g4) (codes "weight") (spaced (signed_decimal l.weight_lo ++ spaced (signed_decimal l.weight_hi))) Weight g5 weight_word (range_printed (codes "weight") l.weight_lo l.weight_hi (refl, (refl, (refl, (refl, (refl, (refl, tt)))))) h.limits.weight) refl weight_key (λ at. once_may Weight g4 at (omega arith)) (λ text from cut. weight_done g4 text l.weight_lo l.weight_hi from cut h.limits.weight),
+              (
+                at_stage 6 g6,
+                reads_entry (at_stage 5 g5) (codes "attr") (spaced (signed_decimal l.attr_lo ++ spaced (signed_decimal l.attr_hi))) Attr g6 attr_word (range_printed (codes "attr") l.attr_lo l.attr_hi (refl, (refl, (refl, (refl, tt)))) h.limits.attr) refl attr_key (λ at. once_may Attr g5 at (omega arith)) (λ text from cut. attr_done g5 text l.attr_lo l.attr_hi from cut h.limits.attr h.limits.attr_least h.limits.attr_most),
+                (
+                  at_stage 7 g7,
+                  reads_entry (at_stage 6 g6) (codes "rounds") (spaced (decimal g.rounds)) Rounds g7 rounds_word (number_printed (codes "rounds") g.rounds (refl, (refl, (refl, (refl, (refl, (refl, tt)))))) (let m = h.rounds.most in omega arith)) refl rounds_key (λ at. once_may Rounds g6 at (omega arith)) (λ text from cut. rounds_done g6 text g.rounds from cut h.rounds),
+                  (
+                    at_stage 8 g8,
+                    combine_reads (at_stage 7 g7) (at_stage 8 g8) g.combine (reads_entry (at_stage 7 g7) (codes "combine") (combination g.combine) CombineWord g8 combine_word (combine_printed g.combine h.combine) (combination_end g.combine) combine_key (λ at. once_may CombineWord g7 at (omega arith)) (λ text from cut. combine_done g7 text g.combine from cut h.combine)),
+                    refl,
+                  ),
+                ),
+              ),
+            ),
+          ),
+        ),
+      ),
+    )

@@ -22,8 +22,8 @@ entered_kept : (d : Draft) (line : List ℕ) (at from : ℕ) (k : Keyword) → G
 unfolding entered
 entered_kept d line at from k h =
     on_then (λ _. IsAdmitted d k) Good (admitted d k at) (λ u. entry_at d.entries k line from >>= λ e. ended_at line e.1 >>= λ v. Ok (record { stage = order k + 1; entries = e.0 })) (admitted_on d k at)
-        (λ u a. on_then (λ r. IsGood (order k + 1) r.0) Good (entry_at d.entries k line from) (λ e. ended_at line e.1 >>= λ v. Ok (record { stage = order k + 1; entries = e.0 })) (entry_kept d k line from h a)
-            (λ e g. on_then (λ _. Unit {0}) Good (ended_at line e.1) (λ v. Ok (record { stage = order k + 1; entries = e.0 })) (on_any (ended_at line e.1)) (λ v t. g)))
+    (λ u a. on_then (λ r. IsGood (order k + 1) r.0) Good (entry_at d.entries k line from) (λ e. ended_at line e.1 >>= λ v. Ok (record { stage = order k + 1; entries = e.0 })) (entry_kept d k line from h a)
+    (λ e g. on_then (λ _. Unit {0}) Good (ended_at line e.1) (λ v. Ok (record { stage = order k + 1; entries = e.0 })) (on_any (ended_at line e.1)) (λ v t. g)))
 
 keyed_kept : (d : Draft) (line : List ℕ) (w : Word) (k : Option Keyword) → Good d → On Good (keyed d line w k)
 keyed_kept d line w None h = tt

@@ -51,6 +51,7 @@ place_reads line rest p next lanes k cut few most =
   where
     not_below : (n : ℕ) → nat_lt n n ≡ false
     not_below n = grind (arith, nat_tests)
+
     not_at : (lanes n : ℕ) → n < lanes → nat_le lanes n ≡ false
     not_at lanes n few = grind (arith, nat_tests)
 
@@ -82,7 +83,7 @@ unfolding entry_at
 init_done g text t k from count cut few most names tree = record {
   at = length text;
   is = ap (λ (n : ℕ). tree_at g InitPart Init n text from >>= λ x. Ok (record g { init = g.init ++ x ∷ [] }, length text)) (sym count)
-    ∙ ap (λ (o : Result Tree LangError). o >>= λ x. Ok (record g { init = g.init ++ x ∷ [] }, length text)) (tree_reads g InitPart Init k from text t cut few most names tree);
+      ∙ ap (λ (o : Result Tree LangError). o >>= λ x. Ok (record g { init = g.init ++ x ∷ [] }, length text)) (tree_reads g InitPart Init k from text t cut few most names tree);
   end = drop_all (length text) text (omega arith);
 }
 
@@ -100,10 +101,10 @@ init_read g h s late early =
         let before' : length g.contribute ≡ length g.ranges = h.contribute.each_lane in
         let d = draft_with g r done [] [] in
         reads_entry d (codes "init") (spaced (decimal k ++ spaced (text_of (names_of g.params) x))) Init (record d.entries { init = done ++ x ∷ [] }) init_word
-            (passes-append is_printed (codes "init ") (decimal k ++ spaced (text_of (names_of g.params) x)) (refl, (refl, (refl, (refl, (refl, tt))))) (rest_printed (scope_in g InitPart) x k (omega arith) lanes h.names tree))
-            refl init_key
-            (λ at. admitted_by d Init at (not_past d Init most (omega arith)) (due_is d Init Init (due_init d least few) (omega arith)) (init_room d.entries))
-            (λ text from cut. init_done d.entries text x k from refl cut few lanes h.names tree)
+        (passes-append is_printed (codes "init ") (decimal k ++ spaced (text_of (names_of g.params) x)) (refl, (refl, (refl, (refl, (refl, tt))))) (rest_printed (scope_in g InitPart) x k (omega arith) lanes h.names tree))
+        refl init_key
+        (λ at. admitted_by d Init at (not_past d Init most (omega arith)) (due_is d Init Init (due_init d least few) (omega arith)) (init_room d.entries))
+        (λ text from cut. init_done d.entries text x k from refl cut few lanes h.names tree)
 
 contribute_word : IsField (codes "contribute")
 contribute_word = record { some = omega arith; whole = (refl, (refl, (refl, (refl, (refl, (refl, (refl, (refl, (refl, (refl, tt)))))))))); ascii = refl }
@@ -122,7 +123,7 @@ unfolding entry_at
 contribute_done g text t k from count cut few most names tree = record {
   at = length text;
   is = ap (λ (n : ℕ). tree_at g ContributePart Contribute n text from >>= λ x. Ok (record g { contribute = g.contribute ++ x ∷ [] }, length text)) (sym count)
-    ∙ ap (λ (o : Result Tree LangError). o >>= λ x. Ok (record g { contribute = g.contribute ++ x ∷ [] }, length text)) (tree_reads g ContributePart Contribute k from text t cut few most names tree);
+      ∙ ap (λ (o : Result Tree LangError). o >>= λ x. Ok (record g { contribute = g.contribute ++ x ∷ [] }, length text)) (tree_reads g ContributePart Contribute k from text t cut few most names tree);
   end = drop_all (length text) text (omega arith);
 }
 
@@ -140,10 +141,10 @@ contribute_read g h s late early =
         let before' : length g.contribute ≡ length g.ranges = h.contribute.each_lane in
         let d = draft_with g r g.init done [] in
         reads_entry d (codes "contribute") (spaced (decimal k ++ spaced (text_of (names_of g.params) x))) Contribute (record d.entries { contribute = done ++ x ∷ [] }) contribute_word
-            (passes-append is_printed (codes "contribute ") (decimal k ++ spaced (text_of (names_of g.params) x)) (refl, (refl, (refl, (refl, (refl, (refl, (refl, (refl, (refl, (refl, (refl, tt))))))))))) (rest_printed (scope_in g ContributePart) x k (omega arith) lanes h.names tree))
-            refl contribute_key
-            (λ at. admitted_by d Contribute at (not_past d Contribute most (omega arith)) (due_is d Contribute Contribute (due_contribute d least (omega arith) few) (omega arith)) (contribute_room d.entries))
-            (λ text from cut. contribute_done d.entries text x k from refl cut few lanes h.names tree)
+        (passes-append is_printed (codes "contribute ") (decimal k ++ spaced (text_of (names_of g.params) x)) (refl, (refl, (refl, (refl, (refl, (refl, (refl, (refl, (refl, (refl, (refl, tt))))))))))) (rest_printed (scope_in g ContributePart) x k (omega arith) lanes h.names tree))
+        refl contribute_key
+        (λ at. admitted_by d Contribute at (not_past d Contribute most (omega arith)) (due_is d Contribute Contribute (due_contribute d least (omega arith) few) (omega arith)) (contribute_room d.entries))
+        (λ text from cut. contribute_done d.entries text x k from refl cut few lanes h.names tree)
 
 apply_word : IsField (codes "apply")
 apply_word = record { some = omega arith; whole = (refl, (refl, (refl, (refl, (refl, tt))))); ascii = refl }
@@ -162,7 +163,7 @@ unfolding entry_at
 apply_done g text t k from count cut few most names tree = record {
   at = length text;
   is = ap (λ (n : ℕ). tree_at g ApplyPart Apply n text from >>= λ x. Ok (record g { apply = g.apply ++ x ∷ [] }, length text)) (sym count)
-    ∙ ap (λ (o : Result Tree LangError). o >>= λ x. Ok (record g { apply = g.apply ++ x ∷ [] }, length text)) (tree_reads g ApplyPart Apply k from text t cut few most names tree);
+      ∙ ap (λ (o : Result Tree LangError). o >>= λ x. Ok (record g { apply = g.apply ++ x ∷ [] }, length text)) (tree_reads g ApplyPart Apply k from text t cut few most names tree);
   end = drop_all (length text) text (omega arith);
 }
 
@@ -180,7 +181,7 @@ apply_read g h s late early =
         let before' : length g.contribute ≡ length g.ranges = h.contribute.each_lane in
         let d = draft_with g r g.init g.contribute done in
         reads_entry d (codes "apply") (spaced (decimal k ++ spaced (text_of (names_of g.params) x))) Apply (record d.entries { apply = done ++ x ∷ [] }) apply_word
-            (passes-append is_printed (codes "apply ") (decimal k ++ spaced (text_of (names_of g.params) x)) (refl, (refl, (refl, (refl, (refl, (refl, tt)))))) (rest_printed (scope_in g ApplyPart) x k (omega arith) lanes h.names tree))
-            refl apply_key
-            (λ at. admitted_by d Apply at (not_past d Apply most (omega arith)) (due_is d Apply Apply (due_apply d least (omega arith) (omega arith) few) (omega arith)) (apply_room d.entries))
-            (λ text from cut. apply_done d.entries text x k from refl cut few lanes h.names tree)
+        (passes-append is_printed (codes "apply ") (decimal k ++ spaced (text_of (names_of g.params) x)) (refl, (refl, (refl, (refl, (refl, (refl, tt)))))) (rest_printed (scope_in g ApplyPart) x k (omega arith) lanes h.names tree))
+        refl apply_key
+        (λ at. admitted_by d Apply at (not_past d Apply most (omega arith)) (due_is d Apply Apply (due_apply d least (omega arith) (omega arith) few) (omega arith)) (apply_room d.entries))
+        (λ text from cut. apply_done d.entries text x k from refl cut few lanes h.names tree)

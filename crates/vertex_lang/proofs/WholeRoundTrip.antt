@@ -46,9 +46,9 @@ lines_are g =
     let e = tree_lines (codes "contribute") (names_of g.params) 0 g.contribute in
     let f = tree_lines (codes "apply") (names_of g.params) 0 g.apply in
     sym (ended-append (a ++ b ++ c ++ d ++ e) f
-        ∙ ap (λ (l : List ℕ). l ++ ended_lines f) (ended-append (a ++ b ++ c ++ d) e
-            ∙ ap (λ (l : List ℕ). l ++ ended_lines e) (ended-append (a ++ b ++ c) d
-                ∙ ap (λ (l : List ℕ). l ++ ended_lines d) (ended-append (a ++ b) c ∙ ap (λ (l : List ℕ). l ++ ended_lines c) (ended-append a b)))))
+    ∙ ap (λ (l : List ℕ). l ++ ended_lines f) (ended-append (a ++ b ++ c ++ d) e
+    ∙ ap (λ (l : List ℕ). l ++ ended_lines e) (ended-append (a ++ b ++ c) d
+    ∙ ap (λ (l : List ℕ). l ++ ended_lines d) (ended-append (a ++ b) c ∙ ap (λ (l : List ℕ). l ++ ended_lines c) (ended-append a b)))))
 
 -- the stages behind the params, the lanes and the three parts
 abbrev stage1 : ProgramEntries → ℕ

@@ -6,7 +6,10 @@ ghost use Rattle.expr_text.specs.PrintingCode.{AreBelow};
 ghost use Rattle.vertex_lang.specs.ProgramOf.{program_of};
 ghost use Rattle.vertex_lang.specs.Canonical.{canonical_text, ended_lines, count_lines, weight_line, attr_line, once_lines, param_lines, lane_lines, tree_lines};
 
-use crate::lines::{append_combine_line, append_lane_line, append_name_line, append_number_line, append_param_line, append_range_line, append_tree_line};
+use crate::lines::{
+    append_combine_line, append_lane_line, append_name_line, append_number_line, append_param_line,
+    append_range_line, append_tree_line,
+};
 use bolt_base::{Bytes, Limits, Memory};
 use std::alloc::Global;
 use vertex_expr::{Expr, LaneRange, NamedParam, Program, ProgramEntries};
@@ -64,7 +67,12 @@ fn append_ranges(out: &mut Bytes, ranges: &[LaneRange]) -> Result<(), Memory>
     Ok(())
 }
 
-fn append_trees(out: &mut Bytes, word: &[u8], params: &[NamedParam], exprs: &[Expr]) -> Result<(), Memory>
+fn append_trees(
+    out: &mut Bytes,
+    word: &[u8],
+    params: &[NamedParam],
+    exprs: &[Expr],
+) -> Result<(), Memory>
     requires few { length exprs.now ≤ 8 }
     requires named { All (λ e. AreBelow (length params.now) (tree_of e)) exprs.now }
     ensures { OnOk result (out.new ≡ out.old ++ ended_lines (tree_lines word.now (names_of params.now) 0 (map tree_of exprs.now))) }
@@ -86,7 +94,12 @@ fn print_entries(alloc: Global, entries: &ProgramEntries) -> Result<Bytes, Memor
     append_params(&mut out, params)?;
     append_ranges(&mut out, entries.ranges.as_slice())?;
     append_trees(&mut out, b"init", params, entries.init.as_slice())?;
-    append_trees(&mut out, b"contribute", params, entries.contribute.as_slice())?;
+    append_trees(
+        &mut out,
+        b"contribute",
+        params,
+        entries.contribute.as_slice(),
+    )?;
     append_trees(&mut out, b"apply", params, entries.apply.as_slice())?;
     Ok(out)
 }

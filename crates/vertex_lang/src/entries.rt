@@ -23,7 +23,12 @@ pub fn copied(alloc: Global, bytes: &[u8]) -> Result<Bytes, LangError>
 }
 
 #[tactic(auto, unfolding(crate::specs::Entries::entry_at))]
-fn program_entry(alloc: Global, entries: ProgramEntries, line: &[u8], from: usize) -> Result<(ProgramEntries, usize), LangError>
+fn program_entry(
+    alloc: Global,
+    entries: ProgramEntries,
+    line: &[u8],
+    from: usize,
+) -> Result<(ProgramEntries, usize), LangError>
     requires within { from ≤ length line.now }
     requires short { length line.now < 2 ^ 32 }
     requires small { IsSmall entries }
@@ -38,7 +43,11 @@ fn program_entry(alloc: Global, entries: ProgramEntries, line: &[u8], from: usiz
 }
 
 #[tactic(auto, unfolding(crate::specs::Entries::entry_at))]
-fn vertices_entry(entries: ProgramEntries, line: &[u8], from: usize) -> Result<(ProgramEntries, usize), LangError>
+fn vertices_entry(
+    entries: ProgramEntries,
+    line: &[u8],
+    from: usize,
+) -> Result<(ProgramEntries, usize), LangError>
     requires within { from ≤ length line.now }
     requires short { length line.now < 2 ^ 32 }
     requires small { IsSmall entries }
@@ -53,7 +62,11 @@ fn vertices_entry(entries: ProgramEntries, line: &[u8], from: usize) -> Result<(
 }
 
 #[tactic(auto, unfolding(crate::specs::Entries::entry_at))]
-fn degree_entry(entries: ProgramEntries, line: &[u8], from: usize) -> Result<(ProgramEntries, usize), LangError>
+fn degree_entry(
+    entries: ProgramEntries,
+    line: &[u8],
+    from: usize,
+) -> Result<(ProgramEntries, usize), LangError>
     requires within { from ≤ length line.now }
     requires short { length line.now < 2 ^ 32 }
     requires small { IsSmall entries }
@@ -68,7 +81,11 @@ fn degree_entry(entries: ProgramEntries, line: &[u8], from: usize) -> Result<(Pr
 }
 
 #[tactic(auto, unfolding(crate::specs::Entries::entry_at))]
-fn edges_entry(entries: ProgramEntries, line: &[u8], from: usize) -> Result<(ProgramEntries, usize), LangError>
+fn edges_entry(
+    entries: ProgramEntries,
+    line: &[u8],
+    from: usize,
+) -> Result<(ProgramEntries, usize), LangError>
     requires within { from ≤ length line.now }
     requires short { length line.now < 2 ^ 32 }
     requires small { IsSmall entries }
@@ -83,7 +100,11 @@ fn edges_entry(entries: ProgramEntries, line: &[u8], from: usize) -> Result<(Pro
 }
 
 #[tactic(auto, unfolding(crate::specs::Entries::entry_at))]
-fn weight_entry(entries: ProgramEntries, line: &[u8], from: usize) -> Result<(ProgramEntries, usize), LangError>
+fn weight_entry(
+    entries: ProgramEntries,
+    line: &[u8],
+    from: usize,
+) -> Result<(ProgramEntries, usize), LangError>
     requires within { from ≤ length line.now }
     requires short { length line.now < 2 ^ 32 }
     requires small { IsSmall entries }
@@ -99,7 +120,11 @@ fn weight_entry(entries: ProgramEntries, line: &[u8], from: usize) -> Result<(Pr
 }
 
 #[tactic(auto, unfolding(crate::specs::Entries::entry_at))]
-fn attr_entry(entries: ProgramEntries, line: &[u8], from: usize) -> Result<(ProgramEntries, usize), LangError>
+fn attr_entry(
+    entries: ProgramEntries,
+    line: &[u8],
+    from: usize,
+) -> Result<(ProgramEntries, usize), LangError>
     requires within { from ≤ length line.now }
     requires short { length line.now < 2 ^ 32 }
     requires small { IsSmall entries }
@@ -115,7 +140,11 @@ fn attr_entry(entries: ProgramEntries, line: &[u8], from: usize) -> Result<(Prog
 }
 
 #[tactic(auto, unfolding(crate::specs::Entries::entry_at))]
-fn rounds_entry(entries: ProgramEntries, line: &[u8], from: usize) -> Result<(ProgramEntries, usize), LangError>
+fn rounds_entry(
+    entries: ProgramEntries,
+    line: &[u8],
+    from: usize,
+) -> Result<(ProgramEntries, usize), LangError>
     requires within { from ≤ length line.now }
     requires short { length line.now < 2 ^ 32 }
     requires small { IsSmall entries }
@@ -130,7 +159,11 @@ fn rounds_entry(entries: ProgramEntries, line: &[u8], from: usize) -> Result<(Pr
 }
 
 #[tactic(auto, unfolding(crate::specs::Entries::entry_at))]
-fn combine_entry(entries: ProgramEntries, line: &[u8], from: usize) -> Result<(ProgramEntries, usize), LangError>
+fn combine_entry(
+    entries: ProgramEntries,
+    line: &[u8],
+    from: usize,
+) -> Result<(ProgramEntries, usize), LangError>
     requires within { from ≤ length line.now }
     requires short { length line.now < 2 ^ 32 }
     requires small { IsSmall entries }
@@ -146,7 +179,13 @@ fn combine_entry(entries: ProgramEntries, line: &[u8], from: usize) -> Result<(P
 
 /// What stands behind an entry's word, put to the entries, and the place behind it.
 #[tactic(auto, unfolding(crate::specs::Drafts::is_full))]
-pub fn entry_at(alloc: Global, entries: ProgramEntries, keyword: Keyword, line: &[u8], from: usize) -> Result<(ProgramEntries, usize), LangError>
+pub fn entry_at(
+    alloc: Global,
+    entries: ProgramEntries,
+    keyword: Keyword,
+    line: &[u8],
+    from: usize,
+) -> Result<(ProgramEntries, usize), LangError>
     requires within { from ≤ length line.now }
     requires short { length line.now < 2 ^ 32 }
     requires small { IsSmall entries }

@@ -8,10 +8,9 @@ mod keywords;
 mod lines;
 mod lists;
 mod ranges;
-mod text;
-
 #[cfg(test)]
 mod tests;
+mod text;
 
 pub use canonical::print;
 pub use text::parse;

@@ -110,7 +110,13 @@ pub fn append_lane_line(out: &mut Bytes, lane: u32, range: LaneRange) -> Result<
     Ok(())
 }
 
-pub fn append_tree_line(out: &mut Bytes, word: &[u8], params: &[NamedParam], lane: u32, expr: &Expr) -> Result<(), Memory>
+pub fn append_tree_line(
+    out: &mut Bytes,
+    word: &[u8],
+    params: &[NamedParam],
+    lane: u32,
+    expr: &Expr,
+) -> Result<(), Memory>
     requires { AreBelow (length params.now) (tree_of expr.now) }
     ensures { OnOk result (out.new ≡ out.old ++ (tree_line word.now (names_of params.now) lane (tree_of expr.now) ++ 10 ∷ [])) }
 {

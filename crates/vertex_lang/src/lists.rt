@@ -13,7 +13,12 @@ use text_words::{Keyword, LangError, name_at, signed_at};
 use vertex_expr::{Expr, NamedParam, Part, ProgramEntries};
 
 #[tactic(auto, unfolding(crate::specs::Entries::entry_at, crate::specs::Entries::param_at))]
-pub fn param_entry(alloc: Global, entries: ProgramEntries, line: &[u8], from: usize) -> Result<(ProgramEntries, usize), LangError>
+pub fn param_entry(
+    alloc: Global,
+    entries: ProgramEntries,
+    line: &[u8],
+    from: usize,
+) -> Result<(ProgramEntries, usize), LangError>
     requires within { from ≤ length line.now }
     requires short { length line.now < 2 ^ 32 }
     requires small { IsSmall entries }
@@ -34,7 +39,11 @@ pub fn param_entry(alloc: Global, entries: ProgramEntries, line: &[u8], from: us
 }
 
 #[tactic(auto, unfolding(crate::specs::Entries::entry_at, crate::specs::Entries::lane_at))]
-pub fn lane_entry(entries: ProgramEntries, line: &[u8], from: usize) -> Result<(ProgramEntries, usize), LangError>
+pub fn lane_entry(
+    entries: ProgramEntries,
+    line: &[u8],
+    from: usize,
+) -> Result<(ProgramEntries, usize), LangError>
     requires within { from ≤ length line.now }
     requires short { length line.now < 2 ^ 32 }
     requires small { IsSmall entries }
@@ -52,7 +61,15 @@ pub fn lane_entry(entries: ProgramEntries, line: &[u8], from: usize) -> Result<(
 
 /// K and the expression of a part.
 #[tactic(auto, unfolding(crate::specs::Entries::tree_at))]
-fn tree_at(alloc: Global, entries: &ProgramEntries, part: Part, keyword: Keyword, next: usize, line: &[u8], from: usize) -> Result<Expr, LangError>
+fn tree_at(
+    alloc: Global,
+    entries: &ProgramEntries,
+    part: Part,
+    keyword: Keyword,
+    next: usize,
+    line: &[u8],
+    from: usize,
+) -> Result<Expr, LangError>
     requires within { from ≤ length line.now }
     requires short { length line.now < 2 ^ 32 }
     requires small { IsSmall entries.now }
@@ -68,7 +85,12 @@ fn tree_at(alloc: Global, entries: &ProgramEntries, part: Part, keyword: Keyword
 }
 
 #[tactic(auto, unfolding(crate::specs::Entries::entry_at))]
-pub fn init_entry(alloc: Global, entries: ProgramEntries, line: &[u8], from: usize) -> Result<(ProgramEntries, usize), LangError>
+pub fn init_entry(
+    alloc: Global,
+    entries: ProgramEntries,
+    line: &[u8],
+    from: usize,
+) -> Result<(ProgramEntries, usize), LangError>
     requires within { from ≤ length line.now }
     requires short { length line.now < 2 ^ 32 }
     requires small { IsSmall entries }
@@ -76,14 +98,27 @@ pub fn init_entry(alloc: Global, entries: ProgramEntries, line: &[u8], from: usi
     ensures within { IfOk result (λ r. r.1 ≤ length line.now) }
     ensures small { IfOk result (λ r. IsSmall r.0) }
 {
-    let expr = tree_at(alloc, &entries, Part::Init, Keyword::Init, entries.init.len(), line, from)?;
+    let expr = tree_at(
+        alloc,
+        &entries,
+        Part::Init,
+        Keyword::Init,
+        entries.init.len(),
+        line,
+        from,
+    )?;
     let mut entries = entries;
     entries.init.push(expr)?;
     Ok((entries, line.len()))
 }
 
 #[tactic(auto, unfolding(crate::specs::Entries::entry_at))]
-pub fn contribute_entry(alloc: Global, entries: ProgramEntries, line: &[u8], from: usize) -> Result<(ProgramEntries, usize), LangError>
+pub fn contribute_entry(
+    alloc: Global,
+    entries: ProgramEntries,
+    line: &[u8],
+    from: usize,
+) -> Result<(ProgramEntries, usize), LangError>
     requires within { from ≤ length line.now }
     requires short { length line.now < 2 ^ 32 }
     requires small { IsSmall entries }
@@ -91,14 +126,27 @@ pub fn contribute_entry(alloc: Global, entries: ProgramEntries, line: &[u8], fro
     ensures within { IfOk result (λ r. r.1 ≤ length line.now) }
     ensures small { IfOk result (λ r. IsSmall r.0) }
 {
-    let expr = tree_at(alloc, &entries, Part::Contribute, Keyword::Contribute, entries.contribute.len(), line, from)?;
+    let expr = tree_at(
+        alloc,
+        &entries,
+        Part::Contribute,
+        Keyword::Contribute,
+        entries.contribute.len(),
+        line,
+        from,
+    )?;
     let mut entries = entries;
     entries.contribute.push(expr)?;
     Ok((entries, line.len()))
 }
 
 #[tactic(auto, unfolding(crate::specs::Entries::entry_at))]
-pub fn apply_entry(alloc: Global, entries: ProgramEntries, line: &[u8], from: usize) -> Result<(ProgramEntries, usize), LangError>
+pub fn apply_entry(
+    alloc: Global,
+    entries: ProgramEntries,
+    line: &[u8],
+    from: usize,
+) -> Result<(ProgramEntries, usize), LangError>
     requires within { from ≤ length line.now }
     requires short { length line.now < 2 ^ 32 }
     requires small { IsSmall entries }
@@ -106,7 +154,15 @@ pub fn apply_entry(alloc: Global, entries: ProgramEntries, line: &[u8], from: us
     ensures within { IfOk result (λ r. r.1 ≤ length line.now) }
     ensures small { IfOk result (λ r. IsSmall r.0) }
 {
-    let expr = tree_at(alloc, &entries, Part::Apply, Keyword::Apply, entries.apply.len(), line, from)?;
+    let expr = tree_at(
+        alloc,
+        &entries,
+        Part::Apply,
+        Keyword::Apply,
+        entries.apply.len(),
+        line,
+        from,
+    )?;
     let mut entries = entries;
     entries.apply.push(expr)?;
     Ok((entries, line.len()))

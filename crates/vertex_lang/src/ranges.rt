@@ -8,7 +8,12 @@ use vertex_expr::{Combine, LaneRange};
 
 /// LO and HI, with the greatest LO and the least HI, and the place behind them.
 #[tactic(auto, unfolding(crate::specs::Entries::range_at))]
-pub fn range_at(line: &[u8], from: usize, lo_most: i64, hi_least: i64) -> Result<(LaneRange, usize), LangError>
+pub fn range_at(
+    line: &[u8],
+    from: usize,
+    lo_most: i64,
+    hi_least: i64,
+) -> Result<(LaneRange, usize), LangError>
     requires within { from ≤ length line.now }
     requires short { length line.now < 2 ^ 32 }
     ensures says { Says (λ r. r) result (range_of_line line.now from lo_most hi_least) }
@@ -66,7 +71,13 @@ pub fn index_at(line: &[u8], from: usize, keyword: Keyword, next: usize) -> Resu
 
 /// The place behind K, which has to be a lane and `next`.
 #[tactic(auto, unfolding(crate::specs::Entries::place_at))]
-pub fn place_at(line: &[u8], from: usize, keyword: Keyword, next: usize, lanes: usize) -> Result<usize, LangError>
+pub fn place_at(
+    line: &[u8],
+    from: usize,
+    keyword: Keyword,
+    next: usize,
+    lanes: usize,
+) -> Result<usize, LangError>
     requires within { from ≤ length line.now }
     requires short { length line.now < 2 ^ 32 }
     ensures says { Says (λ r. r) result (place_of_line line.now from keyword next lanes) }

@@ -38,14 +38,26 @@ fn changed(alloc: Global, changes: &[(usize, &[u8])]) -> Result<Vec<u8>, AllocEr
 #[test]
 fn refused(rt: HostRuntime) -> Result<(), Fail> {
     let table: [(usize, &[u8], LangError); 44] = [
-        (11, b"apply 0 agg[0]\napply 0 agg[0]", LangError::Repeat { at: 151 }),
+        (
+            11,
+            b"apply 0 agg[0]\napply 0 agg[0]",
+            LangError::Repeat { at: 151 },
+        ),
         (6, b"rounds 0", LangError::TooBig { at: 79 }),
         (4, b"weight 10 -10", LangError::TooBig { at: 57 }),
         (9, b"init 0 val[0]", LangError::Unknown { at: 113 }),
         (10, b"contribute 0 val[1]", LangError::TooBig { at: 132 }),
         (10, b"contribute 0 (1", LangError::Syntax { at: 130 }),
-        (10, b"contribute 0 (((((((((((((((((((((((((((((((((", LangError::TooBig { at: 160 }),
-        (11, b"apply 0 9223372036854775808", LangError::TooBig { at: 138 }),
+        (
+            10,
+            b"contribute 0 (((((((((((((((((((((((((((((((((",
+            LangError::TooBig { at: 160 },
+        ),
+        (
+            11,
+            b"apply 0 9223372036854775808",
+            LangError::TooBig { at: 138 },
+        ),
         // bytes outside ASCII
         (0, b"pro\xe9gram base", LangError::Syntax { at: 3 }),
         (6, b"rounds 0 \xe9", LangError::TooBig { at: 79 }),
@@ -59,7 +71,11 @@ fn refused(rt: HostRuntime) -> Result<(), Fail> {
         (9, b"init 0 attrX", LangError::Syntax { at: 117 }),
         (9, b"init 0 Foo", LangError::Syntax { at: 113 }),
         (9, b"init 0 fOo", LangError::Unknown { at: 113 }),
-        (9, b"init 0 if(1 < = 2, 3, 4)", LangError::Syntax { at: 120 }),
+        (
+            9,
+            b"init 0 if(1 < = 2, 3, 4)",
+            LangError::Syntax { at: 120 },
+        ),
         (9, b"init 0 1 - - 1", LangError::Syntax { at: 117 }),
         (6, b"rounds 1a", LangError::Syntax { at: 79 }),
         (6, b"rounds -1", LangError::Syntax { at: 79 }),
@@ -68,18 +84,60 @@ fn refused(rt: HostRuntime) -> Result<(), Fail> {
         (9, b"init 0-1", LangError::Syntax { at: 111 }),
         // two causes at one token
         (9, b"init 0 1 weight", LangError::Syntax { at: 115 }),
-        (9, b"init 0 1 99999999999999999999", LangError::Syntax { at: 115 }),
+        (
+            9,
+            b"init 0 1 99999999999999999999",
+            LangError::Syntax { at: 115 },
+        ),
         // names
-        (0, b"program abcdefghijklmnopqrstuvwxyz0123456", LangError::Syntax { at: 8 }),
-        (8, b"param weight 1\nlane 0 0 100", LangError::Repeat { at: 99 }),
-        (8, b"param far 1\nparam far 2\nlane 0 0 100", LangError::Repeat { at: 111 }),
+        (
+            0,
+            b"program abcdefghijklmnopqrstuvwxyz0123456",
+            LangError::Syntax { at: 8 },
+        ),
+        (
+            8,
+            b"param weight 1\nlane 0 0 100",
+            LangError::Repeat { at: 99 },
+        ),
+        (
+            8,
+            b"param far 1\nparam far 2\nlane 0 0 100",
+            LangError::Repeat { at: 111 },
+        ),
         // entries in their order
         (0, b"programs base", LangError::Unknown { at: 0 }),
-        (6, b"combine sum", LangError::Missing { word: Keyword::Rounds }),
-        (8, b"combine sum\nlane 0 0 100", LangError::Repeat { at: 93 }),
-        (8, b"lane 1 0 100", LangError::Missing { word: Keyword::Lane }),
-        (8, b"lane 0 0 100\nlane 0 0 100", LangError::Repeat { at: 111 }),
-        (8, b"lane 0 0 100\nlane 1 0 1\nlane 9 0 1", LangError::Missing { word: Keyword::Lane }),
+        (
+            6,
+            b"combine sum",
+            LangError::Missing {
+                word: Keyword::Rounds,
+            },
+        ),
+        (
+            8,
+            b"combine sum\nlane 0 0 100",
+            LangError::Repeat { at: 93 },
+        ),
+        (
+            8,
+            b"lane 1 0 100",
+            LangError::Missing {
+                word: Keyword::Lane,
+            },
+        ),
+        (
+            8,
+            b"lane 0 0 100\nlane 0 0 100",
+            LangError::Repeat { at: 111 },
+        ),
+        (
+            8,
+            b"lane 0 0 100\nlane 1 0 1\nlane 9 0 1",
+            LangError::Missing {
+                word: Keyword::Lane,
+            },
+        ),
         (
             8,
             b"lane 0 0 1\nlane 1 0 1\nlane 2 0 1\nlane 3 0 1\nlane 4 0 1\nlane 5 0 1\nlane 6 0 1\nlane 7 0 1\nlane x",
@@ -87,8 +145,20 @@ fn refused(rt: HostRuntime) -> Result<(), Fail> {
         ),
         (9, b"init 1 0", LangError::TooBig { at: 111 }),
         (9, b"init 0 0\ninit 0 0", LangError::Repeat { at: 120 }),
-        (9, b"contribute 0 1", LangError::Missing { word: Keyword::Init }),
-        (11, b"", LangError::Missing { word: Keyword::Apply }),
+        (
+            9,
+            b"contribute 0 1",
+            LangError::Missing {
+                word: Keyword::Init,
+            },
+        ),
+        (
+            11,
+            b"",
+            LangError::Missing {
+                word: Keyword::Apply,
+            },
+        ),
         // ranges
         (5, b"attr 1 2", LangError::TooBig { at: 66 }),
         (5, b"attr -1 -1", LangError::TooBig { at: 69 }),
@@ -98,12 +168,25 @@ fn refused(rt: HostRuntime) -> Result<(), Fail> {
         let text = changed(rt.alloc(), &[(line, said)])?;
         assert_eq!(rt; parse(rt.alloc(), &text).err(), Some(error), "line {line}");
     }
-    assert_eq!(rt; parse(rt.alloc(), b"").err(), Some(LangError::Missing { word: Keyword::Program }));
+    assert_eq!(rt;
+        parse(rt.alloc(), b"").err(),
+        Some(LangError::Missing {
+            word: Keyword::Program
+        })
+    );
     let text = changed(rt.alloc(), &[])?;
     let (most, _last) = text.as_slice().split_at(130.min(text.len()));
-    assert_eq!(rt; parse(rt.alloc(), most).err(), Some(LangError::Missing { word: Keyword::Apply }));
+    assert_eq!(rt;
+        parse(rt.alloc(), most).err(),
+        Some(LangError::Missing {
+            word: Keyword::Apply
+        })
+    );
     let spaces = vec![in rt.alloc(); b' '; 65537]?;
-    assert_eq!(rt; parse(rt.alloc(), &spaces).err(), Some(LangError::TooBig { at: 65536 }));
+    assert_eq!(rt;
+        parse(rt.alloc(), &spaces).err(),
+        Some(LangError::TooBig { at: 65536 })
+    );
     Ok(())
 }
 
@@ -113,10 +196,27 @@ fn accepted(rt: HostRuntime) -> Result<(), Fail> {
         &[],
         &[(2, b"degree 100")],
         &[(2, b"degree 2")],
-        &[(6, b"rounds 4"), (9, b"init 0 attr"), (10, b"contribute 0 val[0]")],
-        &[(6, b"rounds 2"), (9, b"init 0 attr"), (10, b"contribute 0 val[0]"), (11, b"apply 0 min(agg[0], 6)")],
-        &[(4, b"weight 0 5"), (9, b"init 0 attr"), (10, b"contribute 0 val[0] / weight")],
-        &[(2, b"degree 100"), (8, b"lane 0 0 9223372036854775807"), (10, b"contribute 0 92233720368547758")],
+        &[
+            (6, b"rounds 4"),
+            (9, b"init 0 attr"),
+            (10, b"contribute 0 val[0]"),
+        ],
+        &[
+            (6, b"rounds 2"),
+            (9, b"init 0 attr"),
+            (10, b"contribute 0 val[0]"),
+            (11, b"apply 0 min(agg[0], 6)"),
+        ],
+        &[
+            (4, b"weight 0 5"),
+            (9, b"init 0 attr"),
+            (10, b"contribute 0 val[0] / weight"),
+        ],
+        &[
+            (2, b"degree 100"),
+            (8, b"lane 0 0 9223372036854775807"),
+            (10, b"contribute 0 92233720368547758"),
+        ],
         &[
             (1, b"vertices 2000"),
             (2, b"degree 1000"),
@@ -136,16 +236,26 @@ fn accepted(rt: HostRuntime) -> Result<(), Fail> {
         &[(10, b"contribute 0 attr")],
         &[(10, b"contribute 0 1 / 0")],
         &[(11, b"apply 0 -9223372036854775808")],
-        &[(8, b"param rounds -1\nlane 0 0 100"), (9, b"init 0 rounds - -1")],
+        &[
+            (8, b"param rounds -1\nlane 0 0 100"),
+            (9, b"init 0 rounds - -1"),
+        ],
     ];
     for changes in table {
         let text = changed(rt.alloc(), changes)?;
         let program = parse(rt.alloc(), &text)?;
         assert_eq!(rt; print(rt.alloc(), &program)?.as_slice(), text.as_slice());
     }
-    let loose = b"\t program  base # a name\r\n\nvertices 01000\ndegree 1\nedges 1000\nweight -10 10\nattr -0 100\nrounds 1\ncombine sum\nlane 0 0 100\n init 0 ((0))\ncontribute 0 1-(2-3)*(4/5)-6\napply 0 if ( agg [ 0 ]<=1 , (2*3) , -0 )";
+    let loose =
+        b"\t program  base # a name\r\n\nvertices 01000\ndegree 1\nedges 1000\nweight -10 10\nattr -0 100\nrounds 1\ncombine sum\nlane 0 0 100\n init 0 ((0))\ncontribute 0 1-(2-3)*(4/5)-6\napply 0 if ( agg [ 0 ]<=1 , (2*3) , -0 )";
     let program = parse(rt.alloc(), loose)?;
-    let said = changed(rt.alloc(), &[(10, b"contribute 0 1 - (2 - 3) * (4 / 5) - 6"), (11, b"apply 0 if(agg[0] <= 1, 2 * 3, 0)")])?;
+    let said = changed(
+        rt.alloc(),
+        &[
+            (10, b"contribute 0 1 - (2 - 3) * (4 / 5) - 6"),
+            (11, b"apply 0 if(agg[0] <= 1, 2 * 3, 0)"),
+        ],
+    )?;
     assert_eq!(rt; print(rt.alloc(), &program)?.as_slice(), said.as_slice());
     Ok(())
 }
@@ -249,9 +359,17 @@ fn printed_again(rt: HostRuntime) -> Result<(), Fail> {
 /// Four sums of 28 params in parentheses.
 fn long_sum(out: &mut Vec<u8>) -> Result<(), AllocError> {
     for group in 0..4 {
-        out.extend_from_slice(if group == 0 { b"(".as_slice() } else { b"+(".as_slice() })?;
+        out.extend_from_slice(if group == 0 {
+            b"(".as_slice()
+        } else {
+            b"+(".as_slice()
+        })?;
         for term in 0..28 {
-            out.extend_from_slice(if term == 0 { b"".as_slice() } else { b"+".as_slice() })?;
+            out.extend_from_slice(if term == 0 {
+                b"".as_slice()
+            } else {
+                b"+".as_slice()
+            })?;
             out.extend_from_slice(b"abcdefghijklmnopqrstuv")?;
         }
         out.push(b')')?;
@@ -262,7 +380,10 @@ fn long_sum(out: &mut Vec<u8>) -> Result<(), AllocError> {
 
 #[test]
 fn long_canonical_text(rt: HostRuntime) -> Result<(), Fail> {
-    let mut text = Vec::from_slice(rt.alloc(), b"program a\nvertices 1\ndegree 1\nedges 1\nweight 0 0\nattr 0 0\nrounds 1\ncombine max -1\nparam abcdefghijklmnopqrstuv 1\n")?;
+    let mut text = Vec::from_slice(
+        rt.alloc(),
+        b"program a\nvertices 1\ndegree 1\nedges 1\nweight 0 0\nattr 0 0\nrounds 1\ncombine max -1\nparam abcdefghijklmnopqrstuv 1\n",
+    )?;
     let lanes: [&[u8]; 8] = [b"0 ", b"1 ", b"2 ", b"3 ", b"4 ", b"5 ", b"6 ", b"7 "];
     for lane in lanes {
         text.extend_from_slice(b"lane ")?;
@@ -278,6 +399,9 @@ fn long_canonical_text(rt: HostRuntime) -> Result<(), Fail> {
         }
     }
     assert!(rt; text.len() <= 65536);
-    assert_eq!(rt; parse(rt.alloc(), &text).err(), Some(LangError::TooBig { at: 65536 }));
+    assert_eq!(rt;
+        parse(rt.alloc(), &text).err(),
+        Some(LangError::TooBig { at: 65536 })
+    );
     Ok(())
 }

@@ -17,7 +17,14 @@ use vertex_expr::{Program, ProgramEntries};
 
 /// An entry whose word is known.
 #[tactic(auto, unfolding(crate::specs::Drafts::entered))]
-fn entered(alloc: Global, draft: Draft, line: &[u8], at: usize, from: usize, keyword: Keyword) -> Result<Draft, LangError>
+fn entered(
+    alloc: Global,
+    draft: Draft,
+    line: &[u8],
+    at: usize,
+    from: usize,
+    keyword: Keyword,
+) -> Result<Draft, LangError>
     requires place { at < 2 ^ 32 }
     requires within { from ≤ length line.now }
     requires short { length line.now < 2 ^ 32 }
@@ -26,10 +33,16 @@ fn entered(alloc: Global, draft: Draft, line: &[u8], at: usize, from: usize, key
     ensures small { IfOk result (λ d. IsSmall d.entries) }
 {
     admitted(&draft, keyword, at as u32)?;
-    let Draft { stage: _stage, entries } = draft;
+    let Draft {
+        stage: _stage,
+        entries,
+    } = draft;
     let (entries, end) = entry_at(alloc, entries, keyword, line, from)?;
     ended_at(line, end)?;
-    Ok(Draft { stage: order(keyword) + 1, entries })
+    Ok(Draft {
+        stage: order(keyword) + 1,
+        entries,
+    })
 }
 
 /// One line, which begins at a place.
@@ -77,7 +90,10 @@ fn read_entries(alloc: Global, text: &[u8]) -> Result<ProgramEntries, LangError>
     let draft = read_lines(alloc, text)?;
     match first_due(&draft) {
         None => {
-            let Draft { stage: _stage, entries } = draft;
+            let Draft {
+                stage: _stage,
+                entries,
+            } = draft;
             Ok(entries)
         }
         Some(word) => Err(LangError::Missing { word }),
