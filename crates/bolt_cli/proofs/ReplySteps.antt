@@ -1,12 +1,12 @@
 -- How a reply is written in parts.
-use Rattle.std.specs.Prelude.{◌≡◌, ℕ, List, [], ◌++◌, length, Option, Some, None, Result, Ok, Err, IfSome, IfOk, OnOk}
+use Rattle.std.specs.Prelude.{◌≡◌, ℕ, ◌^◌, List, [], ◌++◌, length, take, Option, Some, None, Result, Ok, Err, IfSome, IfOk, OnOk, IsOk}
 use Rattle.std.specs.Option.{option_map}
 use Rattle.std.proofs.Common.{sym, ◌∙◌, ap, subst, arith, inl, inr}
 use Rattle.bolt_base.specs.Graph.{Graph}
 use Rattle.bolt_io.specs.Told.{Told, left, opened_at, taken_from}
 use Rattle.bolt_io.specs.Written.{Wrote, WrotePart}
 use Rattle.bolt_io.proofs.WrittenLemmas.{Wrote-then, WrotePart-then, WrotePart-more, WrotePart-none, WrotePart-all}
-use Rattle.text_lines.specs.Feed.{Feed}
+use Rattle.text_lines.specs.Feed.{Feed, readable}
 use Rattle.rank_rows.specs.Rank.{rank_limits}
 use Rattle.graph_text.specs.declared.bad_line.BadLine.{BadLine}
 use Rattle.graph_text.specs.GraphText.{graph_of}
@@ -15,7 +15,7 @@ use Rattle.run_text.specs.Lines.{graph_refused_line}
 use Rattle.run_text.specs.Run.{Reply, Progress, opened, open_text, end_text, end_status, stream_reply, graph_reply, run_reply}
 use Rattle.run_text.specs.Still.{words_refused, still-wrong, still-right}
 use Rattle.bolt_cli.specs.declared.stop.Stop.{Stop}
-use Rattle.bolt_cli.specs.Files.{content, AreShort, MeetsLong, read_to_end}
+use Rattle.bolt_cli.specs.Files.{whole_file, content, AreShort, IsLongGraph, MeetsLong, read_to_end}
 use Rattle.bolt_cli.specs.Replied.{Replied}
 use Rattle.bolt_cli.specs.Ahead.{reply_ahead, end_reply, WroteUpTo}
 use Rattle.bolt_cli.specs.Command.{reply_over, ReadsLong}
@@ -62,14 +62,14 @@ module _ (told : Option Told) (g : Graph) (slot : ℕ) where
 
   -- a part of the reply to the stream
   pub Replied-part : (feed : Feed) (run : Progress) (old new : Option (List ℕ)) (e : Stop) → feed ≡ record { slot = slot; pending = []; lines = 0; taken = 0 } → run ≡ opened g
-      → IfSome (reply_ahead told feed run) (λ r. WrotePart old new r.text) → Replied told (λ t. stream_reply g (left t slot)) old new (Err e)
+      → IfSome (reply_ahead told feed run) (λ r. WrotePart old new r.text) → Replied told (λ t. stream_reply g (readable t slot)) old new (Err e)
   unfolding fresh stream_reply
   Replied-part feed run old new e is_fresh is_opened part =
       let P : Feed → Type 0 = λ f. IfSome (reply_ahead told f run) (λ r. WrotePart old new r.text) in
       let Q : Progress → Type 0 = λ p. IfSome (reply_ahead told fresh p) (λ r. WrotePart old new r.text) in
       each told (subst Q is_opened (subst P is_fresh part))
     where
-      each : (o : Option Told) → IfSome (reply_ahead o (let f : Feed = record { slot = slot; pending = []; lines = 0; taken = 0 } in f) (opened g)) (λ r. WrotePart old new r.text) → Replied o (λ t. stream_reply g (left t slot)) old new (Err e)
+      each : (o : Option Told) → IfSome (reply_ahead o (let f : Feed = record { slot = slot; pending = []; lines = 0; taken = 0 } in f) (opened g)) (λ r. WrotePart old new r.text) → Replied o (λ t. stream_reply g (readable t slot)) old new (Err e)
       each None part = record { part = tt; whole = tt; status = tt }
       each (Some t) part = record { part = part; whole = tt; status = tt }
 
@@ -85,7 +85,7 @@ module _ (told : Option Told) (g : Graph) (slot : ℕ) where
   -- all of it
   pub Replied-whole : (later : Option Told) (n : ℕ) (feed : Feed) (run last : Progress) (old mid new : Option (List ℕ)) (s : ℕ) → feed ≡ record { slot = slot; pending = []; lines = 0; taken = 0 } → run ≡ opened g
       → later ≡ option_map (taken_from feed.slot n) told → WroteUpTo (reply_ahead told feed run) (option_map (λ _. end_reply last) later) old mid → Wrote mid new (end_text last) → s ≡ end_status last
-      → Replied told (λ t. stream_reply g (left t slot)) old new (Ok s)
+      → Replied told (λ t. stream_reply g (readable t slot)) old new (Ok s)
   unfolding fresh stream_reply
   Replied-whole later n feed run last old mid new s is_fresh is_opened is_later so_far wrote is_status =
       let P : Feed → Type 0 = λ f. WroteUpTo (reply_ahead told f run) (option_map (λ _. end_reply last) later) old mid in
@@ -101,18 +101,18 @@ module _ (told : Option Told) (g : Graph) (slot : ℕ) where
           let status : end_status last ≡ x.status = cc (h.is) in
           (WrotePart-all old new x.text all, (all, is_status ∙ status))
 
-      each : (o : Option Told) → WroteUpTo (reply_ahead o (let f : Feed = record { slot = slot; pending = []; lines = 0; taken = 0 } in f) (opened g)) (option_map (λ _. end_reply last) (option_map (taken_from slot n) o)) old mid → Replied o (λ t. stream_reply g (left t slot)) old new (Ok s)
+      each : (o : Option Told) → WroteUpTo (reply_ahead o (let f : Feed = record { slot = slot; pending = []; lines = 0; taken = 0 } in f) (opened g)) (option_map (λ _. end_reply last) (option_map (taken_from slot n) o)) old mid → Replied o (λ t. stream_reply g (readable t slot)) old new (Ok s)
       each None h = record { part = tt; whole = tt; status = tt }
-      each (Some t) h = let d = done (stream_reply g (left t slot)) h in record { part = d.0; whole = d.1.0; status = d.1.1 }
+      each (Some t) h = let d = done (stream_reply g (readable t slot)) h in record { part = d.0; whole = d.1.0; status = d.1.1 }
 
 -- the reply to the stream of a file that was opened
 pub Replied-file : (a b : Option Told) (k : ℕ) (name : List ℕ) (g : Graph) (old new : Option (List ℕ)) (r : Result ℕ Stop) → IfSome a (λ t. length t.slots ≡ k) → b ≡ option_map (opened_at name) a
-    → Replied b (λ t. stream_reply g (left t k)) old new r → Replied a (λ t. stream_reply g (content t name)) old new r
-Replied-file a b k name g old new r tells is h = Replied-later a b (opened_at name) (λ t. stream_reply g (left t k)) (λ t. stream_reply g (content t name)) old new r is (each a (opened_left a k name tells)) h
+    → Replied b (λ t. stream_reply g (readable t k)) old new r → Replied a (λ t. stream_reply g (content t name)) old new r
+Replied-file a b k name g old new r tells is h = Replied-later a b (opened_at name) (λ t. stream_reply g (readable t k)) (λ t. stream_reply g (content t name)) old new r is (each a (opened_left a k name tells)) h
   where
-    each : (o : Option Told) → IfSome o (λ t. left (opened_at name t) k ≡ content t name) → IfSome o (λ t. stream_reply g (left (opened_at name t) k) ≡ stream_reply g (content t name))
+    each : (o : Option Told) → IfSome o (λ t. left (opened_at name t) k ≡ whole_file t name) → IfSome o (λ t. stream_reply g (readable (opened_at name t) k) ≡ stream_reply g (content t name))
     each None same = tt
-    each (Some t) same = ap (stream_reply g) same
+    each (Some t) same = ap (λ (l : List ℕ). stream_reply g (take (2 ^ 40) l)) same
 
 -- ---- the run
 -- the opening lines, and then the reply to the stream
@@ -181,14 +181,28 @@ module _ (told : Option Told) (words : List (List ℕ)) (graph stream : List ℕ
       each None = tt
       each (Some t) = (λ i. run_reply (content t (is_graph i)) (content t (is_stream i))) ∙ sym (still-right words (content t) (sym is))
 
-  -- where both files are short, none that is read is long
-  pub not_long-right : IfSome told (λ t. AreShort t graph stream) → IfSome told (λ t. ¬ ReadsLong words t)
+  -- where no file that is read gives 2^40 bytes without an end
+  pub not_long-right : IfSome told (λ t. ¬ MeetsLong t graph stream) → IfSome told (λ t. ¬ ReadsLong words t)
   not_long-right h = each told h
     where
-      meets : (t : Told) → AreShort t graph stream → ¬ MeetsLong t graph stream
-      meets t short (inl long) = omega (arith, short.graph_is, long)
-      meets t short (inr long) = omega (arith, short.stream_is, long.1)
-
-      each : (o : Option Told) → IfSome o (λ t. AreShort t graph stream) → IfSome o (λ t. ¬ ReadsLong words t)
+      each : (o : Option Told) → IfSome o (λ t. ¬ MeetsLong t graph stream) → IfSome o (λ t. ¬ ReadsLong words t)
       each None h = tt
-      each (Some t) h = λ (x : ReadsLong words t). meets t h (subst (λ (a : List ℕ). MeetsLong t a stream) (sym is_graph) (subst (λ (b : List ℕ). MeetsLong t (word_at words 2) b) (sym is_stream) x.1))
+      each (Some t) h = λ (x : ReadsLong words t). h (subst (λ (a : List ℕ). MeetsLong t a stream) (sym is_graph) (subst (λ (b : List ℕ). MeetsLong t (word_at words 2) b) (sym is_stream) x.1))
+
+-- where both files are short, none that is read gives 2^40 bytes
+pub not_long-short : (told : Option Told) (graph stream : List ℕ) → IfSome told (λ t. AreShort t graph stream) → IfSome told (λ t. ¬ MeetsLong t graph stream)
+not_long-short None graph stream h = tt
+not_long-short (Some t) graph stream h = meets
+  where
+    meets : ¬ MeetsLong t graph stream
+    meets (inl long) = omega (arith, h.graph_is, long.long)
+    meets (inr long) = omega (arith, h.stream_is, long.1)
+
+-- where the graph is refused, its file doesn't, and the stream isn't read
+pub not_long-refused : (told : Option Told) (graph stream : List ℕ) (bad : BadLine) → IfSome told (λ t. graph_of rank_limits (content t graph) ≡ Err bad) → IfSome told (λ t. ¬ IsLongGraph graph t) → IfSome told (λ t. ¬ MeetsLong t graph stream)
+not_long-refused None graph stream bad is h = tt
+not_long-refused (Some t) graph stream bad is h = meets
+  where
+    meets : ¬ MeetsLong t graph stream
+    meets (inl long) = h long
+    meets (inr long) = let wrong : IsOk (let r : Result Graph BadLine = Err bad in r) = subst IsOk is long.0 in cc wrong

@@ -28,7 +28,7 @@ IsDecided status = (status ≡ 0) ⊎ (status ≡ 1) ⊎ (status ≡ 2) ⊎ (sta
 abbrev pub IsEarly : ℕ → Type 0
 IsEarly status = (status ≡ 5) ⊎ (status ≡ 6) ⊎ (status ≡ 7) ⊎ (status ≡ 8)
 
--- the words are right, and a file that is read for them has 2^40 bytes or more
+-- the words are right, and a file that is read for them gives 2^40 bytes without an end
 abbrev pub ReadsLong : List (List ℕ) → Told → Type 0
 ReadsLong words t = (wrong_at words ≡ None) × MeetsLong t (word_at words 2) (word_at words 3)
 

@@ -28,8 +28,7 @@ fn still<S: Shelf, K: Sink>(
     ensures reply { Replied (S.told shelf.old) (reply_over (texts words.now))
         (K.written out.old) (K.written out.new) result }
     ensures known { IfOk result IsDecided }
-    ensures not_long { IfOk result (λ status. IsMade status ⊎ (status ≡ 2) →
-        IfSome (S.told shelf.old) (λ t. ¬ ReadsLong (texts words.now) t)) }
+    ensures not_long { OnOk result (IfSome (S.told shelf.old) (λ t. ¬ ReadsLong (texts words.now) t)) }
     ensures short { IfOk result (λ status. IsMade status →
         IfSome (S.told shelf.old) (NamesShort (texts words.now))) }
     ensures read { IfOk result (λ status. IsMade status →
@@ -84,18 +83,18 @@ pub fn bolt_still<S: Shelf, K: Sink, T: Gate + Sync>(
     ensures shelf_calm { result ≢ 5 → S.faults shelf.new ≡ S.faults shelf.old }
     ensures sink_calm { result ≢ 6 → K.faults out.new ≡ K.faults out.old }
 
-    // 8 comes only where a file that is read has 2^40 bytes or more, and 0, 1 and 2 only where none has. With 4 the graph
-    // was read up to its first bad line, and its file may be longer.
+    // 8 comes only where a file that is read gives 2^40 bytes without an end, and 0, 1, 2 and 4 only where none does: a graph
+    // is read up to its first bad line, and no further.
     ensures too_long { result ≡ 8 → IfSome (S.told shelf.old) (ReadsLong (texts words.now)) }
-    ensures not_long { IsMade result ⊎ (result ≡ 2) →
-        IfSome (S.told shelf.old) (λ t. ¬ ReadsLong (texts words.now) t) }
+    ensures not_long { IsDecided result → IfSome (S.told shelf.old) (λ t. ¬ ReadsLong (texts words.now) t) }
 
     // With 0 or 1 both files that the words name are shorter than 2^40 bytes, and each was read to its end in a slot of its own.
     ensures short { IsMade result → IfSome (S.told shelf.old) (NamesShort (texts words.now)) }
     ensures read { IsMade result →
         S.told shelf.new ≡ option_map (named_to_end (texts words.now)) (S.told shelf.old) }
 
-    // Where neither count rose and no file that is read has 2^40 bytes, the reply was written whole, or memory was wanting.
+    // Where neither count rose and no file that is read gives 2^40 bytes without an end, the reply was written whole, or memory
+    // was wanting.
     ensures complete { IfSome (S.told shelf.old) (λ t.
         ¬ Rose (S.faults shelf.old) (S.faults shelf.new) → ¬ Rose (K.faults out.old) (K.faults out.new)
         → ¬ ReadsLong (texts words.now) t → IsDecided result ⊎ (result ≡ 7)) }
@@ -143,18 +142,18 @@ pub fn bolt<S: Shelf, K: Sink, T: Gate + Sync, R: Wait>(
     ensures shelf_calm { result ≢ 5 → S.faults shelf.new ≡ S.faults shelf.old }
     ensures sink_calm { result ≢ 6 → K.faults out.new ≡ K.faults out.old }
 
-    // 8 comes only where a file that is read has 2^40 bytes or more, and 0, 1 and 2 only where none has. With 4 the graph
-    // was read up to its first bad line, and its file may be longer.
+    // 8 comes only where a file that is read gives 2^40 bytes without an end, and 0, 1, 2 and 4 only where none does: a graph
+    // is read up to its first bad line, and no further.
     ensures too_long { result ≡ 8 → IfSome (S.told shelf.old) (ReadsLong (texts words.now)) }
-    ensures not_long { IsMade result ⊎ (result ≡ 2) →
-        IfSome (S.told shelf.old) (λ t. ¬ ReadsLong (texts words.now) t) }
+    ensures not_long { IsDecided result → IfSome (S.told shelf.old) (λ t. ¬ ReadsLong (texts words.now) t) }
 
     // With 0 or 1 both files that the words name are shorter than 2^40 bytes, and each was read to its end in a slot of its own.
     ensures short { IsMade result → IfSome (S.told shelf.old) (NamesShort (texts words.now)) }
     ensures read { IsMade result →
         S.told shelf.new ≡ option_map (named_to_end (texts words.now)) (S.told shelf.old) }
 
-    // Where neither count rose and no file that is read has 2^40 bytes, the reply was written whole, or memory was wanting.
+    // Where neither count rose and no file that is read gives 2^40 bytes without an end, the reply was written whole, or memory
+    // was wanting.
     ensures complete { IfSome (S.told shelf.old) (λ t.
         ¬ Rose (S.faults shelf.old) (S.faults shelf.new) → ¬ Rose (K.faults out.old) (K.faults out.new)
         → ¬ ReadsLong (texts words.now) t → IsDecided result ⊎ (result ≡ 7)) }

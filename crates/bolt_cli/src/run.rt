@@ -59,6 +59,7 @@ pub fn run<S: Shelf, K: Sink>(
     ensures read { IfOk result (λ status. status ≢ 4 →
         S.told shelf.new ≡ option_map (both_to_end graph.now stream.now) (S.told shelf.old)) }
     ensures too_long { IsErrOf result Stop.TooLong → IfSome (S.told shelf.old) (λ t. MeetsLong t graph.now stream.now) }
+    ensures not_long { OnOk result (IfSome (S.told shelf.old) (λ t. ¬ MeetsLong t graph.now stream.now)) }
     ensures shelf_cause { BlamesShelf result (S.faults shelf.old) (S.faults shelf.new) }
     ensures sink_cause { BlamesSink result (K.faults out.old) (K.faults out.new) }
 {

@@ -8,7 +8,7 @@ pub enum Stop {
     SinkFailed,
     /// Memory was wanting.
     Memory,
-    /// A file has 2^40 bytes or more.
+    /// A file gave 2^40 bytes without an end.
     TooLong,
 }
 

@@ -3,7 +3,7 @@ ghost use Rattle.std.specs.Prelude.{◌≡◌, ◌+◌, ◌-◌, ◌<◌, ◌≤
 ghost use Rattle.std.specs.Option.{option_map};
 ghost use Rattle.bolt_io.specs.Told.{left};
 ghost use Rattle.bolt_io.specs.Written.{WrotePart};
-ghost use Rattle.text_lines.specs.Feed.{Advances, TookBytes, IsAtEnd};
+ghost use Rattle.text_lines.specs.Feed.{Advances, TookBytes, IsAtEnd, readable};
 ghost use Rattle.graph_text.specs.BatchCode.{batches_ahead};
 ghost use Rattle.run_text.specs.Run.{stream_reply};
 ghost use Rattle.bolt_cli.specs.Ahead.{reply_ahead, end_reply, WroteUpTo};
@@ -99,7 +99,7 @@ fn run_slot<S: Shelf, K: Sink>(
     out: &mut K,
 ) -> Result<u8, Stop>
     requires { slot < S.opened shelf.old }
-    ensures reply { Replied (S.told shelf.old) (λ t. stream_reply opened (left t slot))
+    ensures reply { Replied (S.told shelf.old) (λ t. stream_reply opened (readable t slot))
         (K.written out.old) (K.written out.new) result }
     ensures made { IfOk result IsMade }
     ensures short { OnOk result (IfSome (S.told shelf.old) (λ t. length (left t slot) < 2 ^ 40)) }

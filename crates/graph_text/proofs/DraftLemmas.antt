@@ -14,7 +14,7 @@ use Rattle.graph_text.specs.GraphText.{Draft, bound, drafted, cause, taken_in}
 use Rattle.graph_text.specs.declared.graph_lines.GraphLine.TheVariants.{Edge as EdgeLine}
 use Rattle.graph_text.specs.declared.graph_draft.VertexTally.{VertexTally}
 use Rattle.graph_text.specs.declared.graph_draft.GraphDraft.{GraphDraft}
-use Rattle.graph_text.specs.DraftCode.{tally_at, draft_of, edges_alone, one_if, IsTallied}
+use Rattle.graph_text.specs.DraftCode.{tally_at, attr_at, draft_of, edges_alone, one_if, IsTallied}
 
 -- why the ends or the weight are bad, and why there is no room for one edge more
 abbrev pub ends_of : Limits → Draft → Edge → Option LineCause
@@ -59,7 +59,6 @@ absent (Some x) e = absurd (cc)
 pub record Counts (old new : List VertexTally) (e : Edge) : Type 0 where
   pub outs : (v : ℕ) → (tally_at new v).out_degree ≡ one_if (nat_eq e.src v) + (tally_at old v).out_degree
   pub ins : (v : ℕ) → (tally_at new v).in_degree ≡ one_if (nat_eq e.dst v) + (tally_at old v).in_degree
-  pub attrs : (v : ℕ) → (tally_at new v).attr ≡ (tally_at old v).attr
 
 pub edge_tallied : (c d : GraphDraft) (e : Edge) → IsTallied c → true ≡ is_none (finite.get c.weights (e.src, e.dst)) → Counts c.tallies.items d.tallies.items e → d.weights ≡ finite.insert c.weights (e.src, e.dst) e.weight → d.edges ≡ c.edges + 1 → IsTallied d
 edge_tallied c d e so_far fresh counts weights more =
@@ -71,13 +70,13 @@ edge_tallied c d e so_far fresh counts weights more =
       edges = let size : length (edges (edges_alone d.weights)) ≡ 1 + length (edges g) = ap (λ (m : Weights). length (edges (edges_alone m))) weights ∙ length_added g e none in let count = so_far.edges in omega arith;
     }
 
-pub edge_taken : (c d : GraphDraft) (e : Edge) → d.begun ≡ true → d.counted ≡ c.counted → Counts c.tallies.items d.tallies.items e → length d.tallies.items ≡ max (length c.tallies.items) (max e.src e.dst + 1)
+pub edge_taken : (c d : GraphDraft) (e : Edge) → d.begun ≡ true → d.counted ≡ c.counted → d.attrs.items ≡ c.attrs.items → length d.tallies.items ≡ max (length c.tallies.items) (max e.src e.dst + 1)
     → d.weights ≡ finite.insert c.weights (e.src, e.dst) e.weight → draft_of d ≡ taken_in (draft_of c) (EdgeLine e)
 unfolding taken_in
-edge_taken c d e begun counted counts size weights = λ i. record {
+edge_taken c d e begun counted attrs size weights = λ i. record {
   begun = begun i;
   counted = counted i;
   named = size i;
-  attr = λ v. counts.attrs v i;
+  attr = λ v. attr_at (attrs i) v;
   weights = weights i;
 }

@@ -1,4 +1,5 @@
 pub mod WeightLemmas
+pub mod RowLemmas
 pub mod TallyLemmas
 pub mod DraftLemmas
 pub mod SoundLemmas

@@ -1,15 +1,18 @@
 -- How a draft of a graph is kept.
-use Rattle.std.specs.Prelude.{◌≡◌, ℕ, Bool, if◌then◌else◌, List, [], length, None, slice_index_or}
+use Rattle.std.specs.Prelude.{◌≡◌, ℕ, ℤ, Option, Bool, if◌then◌else◌, List, [], length, None, slice_index_or}
 use Rattle.bolt_base.specs.Graph.{Graph, Weights, edges, outdeg, indeg}
 use Rattle.graph_text.specs.GraphText.{Draft}
 use Rattle.graph_text.specs.declared.graph_draft.VertexTally.{VertexTally}
 use Rattle.graph_text.specs.declared.graph_draft.GraphDraft.{GraphDraft}
 
 abbrev pub no_tally : VertexTally
-no_tally = record { out_degree = 0; in_degree = 0; attr = None }
+no_tally = record { out_degree = 0; in_degree = 0 }
 
 abbrev pub tally_at : List VertexTally → ℕ → VertexTally
 tally_at tallies v = slice_index_or tallies v no_tally
+
+abbrev pub attr_at : List (Option ℤ) → ℕ → Option ℤ
+attr_at attrs v = slice_index_or attrs v None
 
 -- what is said by the lines that were taken in
 abbrev pub draft_of : GraphDraft → Draft
@@ -17,7 +20,7 @@ draft_of c = record {
   begun = c.begun;
   counted = c.counted;
   named = length c.tallies.items;
-  attr = λ v. (tally_at c.tallies.items v).attr;
+  attr = λ v. attr_at c.attrs.items v;
   weights = c.weights;
 }
 

@@ -1,5 +1,5 @@
 -- The graph of a text, or its first bad line.
-use Rattle.std.specs.Prelude.{ℕ, ℤ, pos, ◌+◌, ◌==◌, max, Bool, true, false, not, nat_lt, nat_le, is_none, if◌then◌else◌, List, [], ◌∷◌, map, Option, Some, None, Result, Ok, Err, unwrap_or, codes}
+use Rattle.std.specs.Prelude.{ℕ, ℤ, pos, ◌+◌, ◌==◌, max, Bool, true, false, not, nat_lt, nat_le, is_none, if◌then◌else◌, List, [], ◌∷◌, map, Option, Some, None, Result, Ok, Err, IsOk, unwrap_or, codes}
 use Rattle.std.specs.List.{range_with_len}
 use Rattle.std.specs.Str.{bytes_eq}
 use Rattle.std.specs.FinMap as finite
@@ -9,7 +9,7 @@ use Rattle.bolt_base.specs.declared.limits.LineCause.{LineCause}
 use Rattle.bolt_base.specs.declared.limits.LineCause.TheVariants.{Syntax, Vertex, Attribute, Present}
 use Rattle.bolt_base.specs.Graph.{Graph, Weights}
 use Rattle.bolt_base.specs.Edits.{unless, is_between, one}
-use Rattle.text_lines.specs.Lines.{seen_lines}
+use Rattle.text_lines.specs.Lines.{seen_lines, seen_ended_lines}
 use Rattle.text_lines.specs.Words.{words}
 use Rattle.text_lines.specs.Numbers.{vertex_word, whole_word}
 use Rattle.graph_text.specs.declared.graph_lines.GraphLine.{GraphLine}
@@ -111,3 +111,7 @@ completed (Err bad) = Err bad
 -- the graph of a text, or its first bad line
 abbrev pub graph_of : Limits → List ℕ → Result Graph BadLine
 graph_of l text = completed (read l blank 1 (seen_lines text))
+
+-- no line that an LF ends is bad
+abbrev pub EndedLinesAreGood : Limits → List ℕ → Type 0
+EndedLinesAreGood l text = IsOk (read l blank 1 (seen_ended_lines text))

@@ -1,9 +1,13 @@
 -- Why a text gave no graph.
-use Rattle.std.specs.Prelude.{◌≡◌, ℕ}
+use Rattle.std.specs.Prelude.{◌≡◌, ℕ, ◌≤◌, ◌^◌, length}
+use Rattle.bolt_base.specs.declared.limits.Limits.{Limits}
 use Rattle.bolt_base.specs.declared.limits.LineCause.{LineCause}
 use Rattle.bolt_io.specs.Faults.{Rose}
+use Rattle.bolt_io.specs.Told.{Told, left}
 use Rattle.text_lines.specs.declared.feed.FeedError.{FeedError}
 use Rattle.text_lines.specs.declared.feed.FeedError.TheVariants.{Shelf as FeedShelf, Turns as FeedTurns, Memory as FeedMemory}
+use Rattle.text_lines.specs.Feed.{readable}
+use Rattle.graph_text.specs.GraphText.{EndedLinesAreGood}
 use Rattle.graph_text.specs.declared.graph.GraphRefusal.{GraphRefusal}
 use Rattle.graph_text.specs.declared.graph.GraphRefusal.TheVariants.{Line, Shelf, Turns, Memory}
 
@@ -33,3 +37,8 @@ BlamesShelf old new (Line number cause) = new ≡ old
 BlamesShelf old new (Shelf fault) = Rose old new
 BlamesShelf old new (Turns taken) = new ≡ old
 BlamesShelf old new Memory = new ≡ old
+
+-- a slot has 2^40 bytes or more, and no line that ends in the first 2^40 of them is bad
+pub record IsCutShort (l : Limits) (slot : ℕ) (t : Told) : Type 0 where
+  pub long : 2 ^ 40 ≤ length (left t slot)
+  pub good : EndedLinesAreGood l (readable t slot)

@@ -5,7 +5,7 @@ ghost use Rattle.bolt_io.specs.Told.{left};
 ghost use Rattle.text_lines.specs.Feed.{Advances, IsAtEnd, NeedsMore};
 ghost use Rattle.text_lines.specs.Answers.{BlamesShelf, IfTurns};
 ghost use Rattle.graph_text.specs.StreamText.{unopened, begun_at, with_edit as with_edit_of, with_unknown as with_unknown_of, committed as committed_of, unfinished as unfinished_of, batches_from};
-ghost use Rattle.graph_text.specs.BatchCode.{IsPaired, Reader, batches_ahead, with_line};
+ghost use Rattle.graph_text.specs.BatchCode.{IsPaired, IsBatchStuck, Reader, batches_ahead, with_line};
 
 use crate::bad_line::BadLine;
 use crate::batch_text::{BatchText, OpenBatch};
@@ -161,6 +161,8 @@ fn read_batch<S: Shelf>(
 
     // The errors.
     ensures turns { IfErr result (IfTurns (λ n. (n ≡ 2 ^ 40) × (feed.new.taken ≡ 2 ^ 40) × NeedsMore feed.new)) }
+    ensures stuck { IfErr result (IfTurns (λ _. IfSome (S.told shelf.old) (IsBatchStuck feed.old))) }
+    ensures not_stuck { OnOk result (IfSome (S.told shelf.old) (λ t. ¬ IsBatchStuck feed.old t)) }
     ensures cause { IfErr result (BlamesShelf (S.faults shelf.old) (S.faults shelf.new)) }
     ensures calm { OnOk result (S.faults shelf.new ≡ S.faults shelf.old) }
     ensures no_fewer_faults { S.faults shelf.old ≤ S.faults shelf.new }
@@ -235,8 +237,12 @@ impl BatchReader {
         ensures most { self.new.feed.taken ≤ 2 ^ 40 }
         ensures fewer { IfOk result (λ r. IfNone r (self.new.feed.taken < 2 ^ 40)) }
 
-        // The errors.
+        // Turns comes exactly where 2^40 bytes were taken, no line that ends in them ends the batch, and another read is needed.
         ensures turns { IfErr result (IfTurns (λ n. (n ≡ 2 ^ 40) × (self.new.feed.taken ≡ 2 ^ 40) × NeedsMore self.new.feed)) }
+        ensures stuck { IfErr result (IfTurns (λ _. IfSome (S.told shelf.old) (IsBatchStuck self.old.feed))) }
+        ensures not_stuck { OnOk result (IfSome (S.told shelf.old) (λ t. ¬ IsBatchStuck self.old.feed t)) }
+
+        // The other errors.
         ensures cause { IfErr result (BlamesShelf (S.faults shelf.old) (S.faults shelf.new)) }
         ensures calm { OnOk result (S.faults shelf.new ≡ S.faults shelf.old) }
         ensures no_fewer_faults { S.faults shelf.old ≤ S.faults shelf.new }

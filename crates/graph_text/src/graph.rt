@@ -1,12 +1,13 @@
 // The graph reader.
-ghost use Rattle.std.specs.Prelude.{◌≡◌, ◌+◌, ◌-◌, ◌<◌, ◌≤◌, ◌^◌, ℕ, pos, Ok, Err, [], length, IfOk, IfErr, OnOk, IfSome};
+ghost use Rattle.std.specs.Prelude.{◌≡◌, ◌+◌, ◌-◌, ◌<◌, ◌≤◌, ◌^◌, ℕ, pos, Ok, Err, [], length, IfOk, IfErr, OnOk, IfSome, IsOk};
 ghost use Rattle.bolt_base.specs.Graph.{IsBetween, IsGood};
 ghost use Rattle.bolt_io.specs.Told.{left};
-ghost use Rattle.text_lines.specs.Feed.{Advances, TookBytes, IsAtEnd, ahead};
+ghost use Rattle.text_lines.specs.Lines.{seen_ended_lines};
+ghost use Rattle.text_lines.specs.Feed.{Advances, TookBytes, IsAtEnd, MeetsLimit, ahead, readable, rest};
 ghost use Rattle.graph_text.specs.GraphText.{graph_of, read};
 ghost use Rattle.graph_text.specs.DraftCode.{draft_of, IsTallied};
 ghost use Rattle.graph_text.specs.DraftGood.{IsSound, Grows};
-ghost use Rattle.graph_text.specs.Refusals.{IfLine, IfTurns, BlamesShelf};
+ghost use Rattle.graph_text.specs.Refusals.{IfLine, IfTurns, BlamesShelf, IsCutShort};
 
 use crate::graph_draft::GraphDraft;
 use crate::graph_lines::graph_line;
@@ -76,6 +77,8 @@ fn read_lines<S: Shelf>(
 
     // The errors.
     ensures turns { IfErr result (IfTurns (λ n. (n ≡ 2 ^ 40) × (feed.new.taken ≡ 2 ^ 40))) }
+    ensures cut_short { IfErr result (IfTurns (λ _. IfSome (S.told shelf.old) (λ t. MeetsLimit feed.old t × IsOk (read limits.now (draft_of draft.old) (feed.old.lines + 1) (seen_ended_lines (rest t feed.old)))))) }
+    ensures early { IfErr result (IfLine (λ number cause. IfSome (S.told shelf.old) (λ t. MeetsLimit feed.old t → read limits.now (draft_of draft.old) (feed.old.lines + 1) (seen_ended_lines (rest t feed.old)) ≡ Err (record { line = number; cause = cause })))) }
     ensures cause { IfErr result (BlamesShelf (S.faults shelf.old) (S.faults shelf.new)) }
     ensures calm { OnOk result (S.faults shelf.new ≡ S.faults shelf.old) }
     ensures no_fewer_faults { S.faults shelf.old ≤ S.faults shelf.new }
@@ -104,14 +107,18 @@ pub fn read_graph<S: Shelf>(
     limits: &Limits,
 ) -> Result<GraphData, GraphRefusal>
     requires slot { slot < S.opened shelf.old }
-    ensures graph { IfOk result (λ g. IfSome (S.told shelf.old) (λ t. graph_of limits.now (left t slot) ≡ Ok g)) }
-    ensures line { IfErr result (IfLine (λ number cause. IfSome (S.told shelf.old) (λ t. graph_of limits.now (left t slot) ≡ Err (record { line = number; cause = cause })))) }
+    ensures graph { IfOk result (λ g. IfSome (S.told shelf.old) (λ t. graph_of limits.now (readable t slot) ≡ Ok g)) }
+    ensures line { IfErr result (IfLine (λ number cause. IfSome (S.told shelf.old) (λ t. graph_of limits.now (readable t slot) ≡ Err (record { line = number; cause = cause })))) }
     ensures good { IfOk result (λ g. IsBetween limits.now.attr_lo limits.now.attr_hi (pos 0) → IsGood limits.now g) }
 
-    // The text was read to its end, or up to the limit.
+    // With Ok the text was read to its end.
     ensures end { OnOk result (IfSome (S.told shelf.new) (λ t. left t slot ≡ [])) }
     ensures short { OnOk result (IfSome (S.told shelf.old) (λ t. length (left t slot) < 2 ^ 40)) }
-    ensures turns { IfErr result (IfTurns (λ n. (n ≡ 2 ^ 40) × IfSome (S.told shelf.old) (λ t. 2 ^ 40 ≤ length (left t slot)))) }
+
+    // Turns comes exactly where 2^40 bytes were taken, no line that ends in them is bad, and another read is needed.
+    ensures turns { IfErr result (IfTurns (λ n. n ≡ 2 ^ 40)) }
+    ensures cut_short { IfErr result (IfTurns (λ _. IfSome (S.told shelf.old) (IsCutShort limits.now slot))) }
+    ensures early { IfErr result (IfLine (λ _ _. IfSome (S.told shelf.old) (λ t. ¬ IsCutShort limits.now slot t))) }
 
     // The shelf: bytes of the slot were taken, and nothing else changed.
     ensures took { TookBytes (S.told shelf.old) (S.told shelf.new) slot }

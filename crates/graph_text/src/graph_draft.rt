@@ -4,7 +4,7 @@ ghost use Rattle.std.specs.List.{range_with_len};
 ghost use Rattle.std.specs.Option.{unwrap_or};
 ghost use Rattle.graph_text.specs.GraphText.{cause as cause_of, taken_in, bound as bound_of, blank, complete};
 ghost use Rattle.bolt_base.specs.Edits.{is_between as is_between_of, unless, has_degrees, has_room};
-ghost use Rattle.graph_text.specs.DraftCode.{tally_at, draft_of, edges_alone, one_if, IsTallied};
+ghost use Rattle.graph_text.specs.DraftCode.{tally_at, attr_at, draft_of, edges_alone, one_if, IsTallied};
 ghost use Rattle.graph_text.specs.declared.graph_lines.GraphLine.TheVariants.{Vertices, Attr, Edge as EdgeLine};
 
 use crate::graph_lines::GraphLine;
@@ -12,21 +12,22 @@ use crate::weight_map::WeightMap;
 use bolt_base::{AttrList, Edge, GraphData, Limits, LineCause, Memory};
 use std::alloc::Global;
 
-/// What is known of a vertex: its degrees, and its attribute where one was given.
+/// The degrees of a vertex.
 #[derive(Clone, Copy, Debug)]
 pub struct VertexTally {
     pub out_degree: u32,
     pub in_degree: u32,
-    pub attr: Option<i64>,
 }
 
 /// The lines so far of a graph text: whether one of them isn't empty, the number of vertices where it was told, a tally of
-/// each vertex up to the greatest one that was named, and the edges with their number.
+/// each vertex up to the greatest one that was named, the attributes up to the greatest vertex that was given one, and the
+/// edges with their number.
 #[derive(Drop)]
 pub struct GraphDraft {
     pub begun: bool,
     pub counted: Option<u32>,
     pub tallies: Vec<VertexTally>,
+    pub attrs: Vec<Option<i64>>,
     pub edges: u32,
     pub weights: WeightMap,
 }
@@ -34,7 +35,6 @@ pub struct GraphDraft {
 const NO_TALLY: VertexTally = VertexTally {
     out_degree: 0,
     in_degree: 0,
-    attr: None,
 };
 
 /// Has a tally for each vertex up to this one.
@@ -60,13 +60,36 @@ fn tally(tallies: &[VertexTally], vertex: usize) -> VertexTally
     }
 }
 
+/// Has a place for the attribute of each vertex up to this one.
+fn cover_attrs(attrs: &mut Vec<Option<i64>>, vertex: u32) -> Result<(), Memory>
+    ensures there { OnOk result (vertex < vec_len attrs.new) }
+    ensures same { OnOk result ((v : ℕ) → attr_at attrs.new.items v ≡ attr_at attrs.old.items v) }
+{
+    let count = vertex as usize + 1;
+    if attrs.len() >= count {
+        return Ok(());
+    }
+    attrs.resize(count, None)?;
+    Ok(())
+}
+
+/// The attribute of a vertex, where one was given.
+fn attr_of(attrs: &[Option<i64>], vertex: usize) -> Option<i64>
+    ensures { result ≡ attr_at attrs.now vertex }
+{
+    match attrs.get(vertex) {
+        Some(attr) => *attr,
+        None => None,
+    }
+}
+
 /// The attributes of that many vertices, 0 where none was given.
-fn attrs_of(alloc: Global, tallies: &[VertexTally], count: usize) -> Result<AttrList, Memory>
-    ensures { IfOk result (λ attrs. attrs ≡ map (λ v. unwrap_or (tally_at tallies.now v).attr (pos 0)) (range_with_len 0 count)) }
+fn attrs_of(alloc: Global, given: &[Option<i64>], count: usize) -> Result<AttrList, Memory>
+    ensures { IfOk result (λ attrs. attrs ≡ map (λ v. unwrap_or (attr_at given.now v) (pos 0)) (range_with_len 0 count)) }
 {
     let mut attrs = AttrList::new(alloc);
     for v in 0..count {
-        attrs.push(tally(tallies, v).attr.unwrap_or(0))?;
+        attrs.push(attr_of(given, v).unwrap_or(0))?;
     }
     Ok(attrs)
 }
@@ -78,13 +101,11 @@ fn add_out(tallies: &mut Vec<VertexTally>, vertex: u32)
     ensures len { vec_len tallies.new ≡ vec_len tallies.old }
     ensures outs { (v : ℕ) → (tally_at tallies.new.items v).out_degree ≡ one_if (nat_eq vertex v) + (tally_at tallies.old.items v).out_degree }
     ensures ins { (v : ℕ) → (tally_at tallies.new.items v).in_degree ≡ (tally_at tallies.old.items v).in_degree }
-    ensures attrs { (v : ℕ) → (tally_at tallies.new.items v).attr ≡ (tally_at tallies.old.items v).attr }
 {
     let tally = tallies[vertex as usize];
     tallies[vertex as usize] = VertexTally {
         out_degree: tally.out_degree + 1,
         in_degree: tally.in_degree,
-        attr: tally.attr,
     };
 }
 
@@ -95,30 +116,20 @@ fn add_in(tallies: &mut Vec<VertexTally>, vertex: u32)
     ensures len { vec_len tallies.new ≡ vec_len tallies.old }
     ensures outs { (v : ℕ) → (tally_at tallies.new.items v).out_degree ≡ (tally_at tallies.old.items v).out_degree }
     ensures ins { (v : ℕ) → (tally_at tallies.new.items v).in_degree ≡ one_if (nat_eq vertex v) + (tally_at tallies.old.items v).in_degree }
-    ensures attrs { (v : ℕ) → (tally_at tallies.new.items v).attr ≡ (tally_at tallies.old.items v).attr }
 {
     let tally = tallies[vertex as usize];
     tallies[vertex as usize] = VertexTally {
         out_degree: tally.out_degree,
         in_degree: tally.in_degree + 1,
-        attr: tally.attr,
     };
 }
 
 /// Gives a vertex an attribute.
-fn set_attr(tallies: &mut Vec<VertexTally>, vertex: u32, attr: i64)
-    requires there { vertex < vec_len tallies.old }
-    ensures len { vec_len tallies.new ≡ vec_len tallies.old }
-    ensures outs { (v : ℕ) → (tally_at tallies.new.items v).out_degree ≡ (tally_at tallies.old.items v).out_degree }
-    ensures ins { (v : ℕ) → (tally_at tallies.new.items v).in_degree ≡ (tally_at tallies.old.items v).in_degree }
-    ensures attrs { (v : ℕ) → (tally_at tallies.new.items v).attr ≡ (if v == vertex then Some attr else (tally_at tallies.old.items v).attr) }
+fn set_attr(attrs: &mut Vec<Option<i64>>, vertex: u32, attr: i64)
+    requires { vertex < vec_len attrs.old }
+    ensures { (v : ℕ) → attr_at attrs.new.items v ≡ (if v == vertex then Some attr else attr_at attrs.old.items v) }
 {
-    let tally = tallies[vertex as usize];
-    tallies[vertex as usize] = VertexTally {
-        out_degree: tally.out_degree,
-        in_degree: tally.in_degree,
-        attr: Some(attr),
-    };
+    attrs[vertex as usize] = Some(attr);
 }
 
 fn is_between(lo: i64, hi: i64, x: i64) -> bool
@@ -137,6 +148,7 @@ impl GraphDraft {
             begun: false,
             counted: None,
             tallies: Vec::new(alloc),
+            attrs: Vec::new(alloc),
             edges: 0,
             weights: WeightMap::new(alloc),
         }
@@ -187,11 +199,12 @@ impl GraphDraft {
         if !is_between(limits.attr_lo, limits.attr_hi, attr) {
             return Ok(Some(LineCause::Attribute));
         }
-        if tally(&self.tallies, vertex as usize).attr.is_some() {
+        if attr_of(&self.attrs, vertex as usize).is_some() {
             return Ok(Some(LineCause::Present));
         }
         cover(&mut self.tallies, vertex)?;
-        set_attr(&mut self.tallies, vertex, attr);
+        cover_attrs(&mut self.attrs, vertex)?;
+        set_attr(&mut self.attrs, vertex, attr);
         self.begun = true;
         Ok(None)
     }
@@ -291,7 +304,7 @@ impl GraphDraft {
             Some(count) => count as usize,
             None => self.tallies.len(),
         };
-        let attrs = attrs_of(alloc, &self.tallies, count)?;
+        let attrs = attrs_of(alloc, &self.attrs, count)?;
         let edges = self.weights.into_edges(alloc)?;
         Ok(GraphData::new(attrs, edges))
     }

@@ -1,7 +1,8 @@
 -- What stands ahead of a feed.
-use Rattle.std.proofs.Common.{◌≡◌, ℕ, ◌+◌, ◌-◌, ◌<◌, ◌≤◌, min, List, [], ◌∷◌, ◌++◌, length, get_or, take, drop, All, refl, sym, ◌∙◌, ap, subst, arith, length-drop, take-append-drop, append_assoc, Bool, true, false, Option, Some, None}
-use Rattle.std.specs.Prelude.{slice_range, nat_lt, IfSome}
+use Rattle.std.proofs.Common.{◌≡◌, ℕ, ◌+◌, ◌-◌, ◌<◌, ◌≤◌, min, List, [], ◌∷◌, ◌++◌, length, get_or, take, drop, All, refl, sym, ◌∙◌, ap, subst, arith, length-drop, append_assoc, Bool, true, false, Option, Some, None}
+use Rattle.std.specs.Prelude.{◌^◌, slice_range, nat_lt, IfSome}
 use Rattle.std.proofs.lemmas.List.{take-take, take_all, length-take, length-take-le, take-append-le}
+use Rattle.std.proofs.Common.{take-add}
 use Rattle.std.proofs.Math.Seq.{take-append-add}
 use Rattle.std.proofs.lemmas.Bool.Decides.{nat_tests}
 use borrow.Rule.Slice.PartMut.{put_mid, post_of}
@@ -13,9 +14,12 @@ use Rattle.bolt_io.specs.Told.{Told, left, taken_from, GivesNext}
 use Rattle.bolt_io.proofs.TakenLemmas.{taken_from-none, taken_from-twice, left-taken_from}
 use Rattle.std.specs.List.{copy_within, prefix_len}
 use Rattle.std.proofs.lemmas.List.Edits.{take-paste}
-use Rattle.text_lines.specs.Lines.{is_lf, is_no_lf, without_cr, seen, seen_lines}
-use Rattle.text_lines.specs.Feed.{Feed, ahead, answered, NeedsMore, IsAtEnd, Advances, IsFront, EndsLine, ReadsOn}
-use Rattle.text_lines.proofs.LineLemmas.{lines_front, lines_last, lines_cut}
+use Rattle.text_lines.specs.Lines.{is_lf, is_no_lf, without_cr, seen, seen_lines, seen_ended_lines}
+use Rattle.text_lines.specs.Feed.{Feed, rest, ahead, ended_ahead, answered, NeedsMore, MeetsLimit, IsStuck, IsAtEnd, Advances, IsFront, EndsLine, ReadsOn}
+use Rattle.text_lines.specs.declared.feed.FeedError.{FeedError}
+use Rattle.text_lines.specs.declared.feed.FeedError.TheVariants.{Shelf, Turns, Memory}
+use Rattle.text_lines.specs.Answers.{IfTurns}
+use Rattle.text_lines.proofs.LineLemmas.{lines_front, ended_front, lines_last, ended_none, lines_cut, ended_cut}
 use Rattle.text_lines.proofs.WordLemmas.{none_before, passes_next}
 
 -- the bytes of a block from a place on, moved to its front
@@ -74,28 +78,48 @@ pub no_end : (text : List ℕ) → prefix_len is_no_lf text ≡ length text → 
 no_end text is = subst (λ (l : List ℕ). All (λ b. is_lf b ≡ false) l) (take_all (prefix_len is_no_lf text) text (omega arith)) (none_before is_lf text)
 
 module _ (t : Told) (slot n : ℕ) (below : slot < length t.slots) where
-  -- what was taken stands before what is left
-  taken_then : (xs : List ℕ) → (xs ++ take n (left t slot)) ++ left (taken_from slot n t) slot ≡ xs ++ left t slot
-  taken_then xs =
-      ap (λ (l : List ℕ). (xs ++ take n (left t slot)) ++ l) (left-taken_from slot t n 0 below)
-      ∙ append_assoc xs (take n (left t slot)) (drop n (left t slot))
-      ∙ ap (λ (l : List ℕ). xs ++ l) (take-append-drop n (left t slot))
+  -- what was taken stands before what is left; k bytes more may be taken then, where m could be before
+  taken_then : (m k : ℕ) → m ≡ n + k → (xs : List ℕ) → (xs ++ take n (left t slot)) ++ take k (left (taken_from slot n t) slot) ≡ xs ++ take m (left t slot)
+  taken_then m k count xs =
+      ap (λ (l : List ℕ). (xs ++ take n (left t slot)) ++ take k l) (left-taken_from slot t n 0 below)
+      ∙ append_assoc xs (take n (left t slot)) (take k (drop n (left t slot)))
+      ∙ ap (λ (l : List ℕ). xs ++ l) (sym (take-add n k (left t slot)) ∙ ap (λ (j : ℕ). take j (left t slot)) (sym count))
+
+-- what counts of lines doesn't change where a line that has no end yet is cut behind 257 bytes
+module _ (count : List ℕ → List (Option (List ℕ))) (cut : (bytes more : List ℕ) → All (λ b. is_lf b ≡ false) bytes → count (take 257 bytes ++ more) ≡ count (bytes ++ more)) where
+  abbrev counted : Option Told → Feed → Option (List (Option (List ℕ)))
+  counted told f = option_map (λ t. count (rest t f)) told
+
+  counted_read : (old new : Option Told) (f g : Feed) (n : ℕ) → NeedsMore f → g.slot ≡ f.slot → g.taken ≡ f.taken + n → g.taken ≤ 2 ^ 40 → ReadsOn old new f.slot n → IfSome old (λ t. f.slot < length t.slots)
+      → IfSome old (λ t. g.pending ≡ take 257 f.pending ++ take n (left t f.slot)) → counted new g ≡ counted old f
+  counted_read None new f g n none same taken most reads below bytes = ap (λ (o : Option Told). counted o g) reads.told
+  counted_read (Some t) new f g n none same taken most reads below bytes =
+      let k = 2 ^ 40 - g.taken in
+      ap (λ (o : Option Told). counted o g) reads.told
+      ∙ ap (λ (s : ℕ). Some (count (g.pending ++ take k (left (taken_from f.slot n t) s)))) same
+      ∙ ap (λ (l : List ℕ). Some (count (l ++ take k (left (taken_from f.slot n t) f.slot)))) bytes
+      ∙ ap (λ (l : List ℕ). Some (count l)) (taken_then t f.slot n below (2 ^ 40 - f.taken) k (omega arith) (take 257 f.pending))
+      ∙ ap (λ (l : List (Option (List ℕ))). Some l) (cut f.pending (take (2 ^ 40 - f.taken) (left t f.slot)) none)
+
+  counted_kept : (told : Option Told) (f : Feed) → NeedsMore f → counted told (record f { pending = take 257 f.pending }) ≡ counted told f
+  counted_kept None f none = refl
+  counted_kept (Some t) f none = ap (λ (l : List (Option (List ℕ))). Some l) (cut f.pending (take (2 ^ 40 - f.taken) (left t f.slot)) none)
 
 -- a read that ends no line leaves what is ahead
-pub ahead_read : (old new : Option Told) (f g : Feed) (n : ℕ) → NeedsMore f → g.slot ≡ f.slot → ReadsOn old new f.slot n → IfSome old (λ t. f.slot < length t.slots)
-    → IfSome old (λ t. g.pending ≡ take 257 f.pending ++ take n (left t f.slot)) → ahead new g ≡ ahead old f
-ahead_read None new f g n none same reads below bytes = ap (λ (o : Option Told). ahead o g) reads.told
-ahead_read (Some t) new f g n none same reads below bytes =
-    ap (λ (o : Option Told). ahead o g) reads.told
-    ∙ ap (λ (s : ℕ). Some (seen_lines (g.pending ++ left (taken_from f.slot n t) s))) same
-    ∙ ap (λ (l : List ℕ). Some (seen_lines (l ++ left (taken_from f.slot n t) f.slot))) bytes
-    ∙ ap (λ (l : List ℕ). Some (seen_lines l)) (taken_then t f.slot n below (take 257 f.pending))
-    ∙ ap (λ (l : List (Option (List ℕ))). Some l) (lines_cut f.pending (left t f.slot) none)
+module _ (old new : Option Told) (f g : Feed) (n : ℕ) (none : NeedsMore f) (same : g.slot ≡ f.slot) (taken : g.taken ≡ f.taken + n) (most : g.taken ≤ 2 ^ 40) (reads : ReadsOn old new f.slot n)
+    (below : IfSome old (λ t. f.slot < length t.slots)) (bytes : IfSome old (λ t. g.pending ≡ take 257 f.pending ++ take n (left t f.slot))) where
+  pub ahead_read : ahead new g ≡ ahead old f
+  ahead_read = counted_read seen_lines lines_cut old new f g n none same taken most reads below bytes
+
+  pub ended_ahead_read : ended_ahead new g ≡ ended_ahead old f
+  ended_ahead_read = counted_read seen_ended_lines ended_cut old new f g n none same taken most reads below bytes
 
 -- and so does one that fails
 pub ahead_kept : (told : Option Told) (f : Feed) → NeedsMore f → ahead told (record f { pending = take 257 f.pending }) ≡ ahead told f
-ahead_kept None f none = refl
-ahead_kept (Some t) f none = ap (λ (l : List (Option (List ℕ))). Some l) (lines_cut f.pending (left t f.slot) none)
+ahead_kept = counted_kept seen_lines lines_cut
+
+pub ended_ahead_kept : (told : Option Told) (f : Feed) → NeedsMore f → ended_ahead told (record f { pending = take 257 f.pending }) ≡ ended_ahead told f
+ended_ahead_kept = counted_kept seen_ended_lines ended_cut
 
 -- before the first read
 pub Advances-none : (told : Option Told) (slot n : ℕ) → n ≡ 0 → Advances told told slot n
@@ -141,50 +165,71 @@ front_found told f len whole ends = record {
   within = ends.within;
   inside = ends.inside;
   reads = each told;
+  ended = each_ended told;
 }
   where
-    each : (told : Option Told) → IfSome told (λ t. seen_lines (f.pending ++ left t f.slot) ≡ seen (take len f.pending) ∷ seen_lines (drop whole f.pending ++ left t f.slot))
+    each : (told : Option Told) → IfSome told (λ t. seen_lines (rest t f) ≡ seen (take len f.pending) ∷ seen_lines (rest t (answered whole f)))
     each None = tt
-    each (Some t) = lines_front f.pending (left t f.slot) len whole ends
+    each (Some t) = lines_front f.pending (take (2 ^ 40 - f.taken) (left t f.slot)) len whole ends
+
+    each_ended : (told : Option Told) → IfSome told (λ t. MeetsLimit f t → seen_ended_lines (rest t f) ≡ seen (take len f.pending) ∷ seen_ended_lines (rest t (answered whole f)))
+    each_ended None = tt
+    each_ended (Some t) = λ limit. ended_front f.pending (take (2 ^ 40 - f.taken) (left t f.slot)) len whole ends
 
 -- the bytes of the last line
 pub record IsRest (told : Option Told) (g : Feed) : Type 0 where
   pub ended : IfSome told (λ t. left t g.slot ≡ [])
   pub none : IfSome told (λ _. NeedsMore g)
+  pub fewer : g.taken < 2 ^ 40
 
-pub rest_read : (old new : Option Told) (f g : Feed) (n : ℕ) → n ≡ 0 → NeedsMore f → g.slot ≡ f.slot → ReadsOn old new f.slot n → IfSome old (λ t. f.slot < length t.slots)
+pub rest_read : (old new : Option Told) (f g : Feed) (n : ℕ) → n ≡ 0 → NeedsMore f → g.slot ≡ f.slot → g.taken ≡ f.taken + n → f.taken < 2 ^ 40 → ReadsOn old new f.slot n → IfSome old (λ t. f.slot < length t.slots)
     → IfSome old (λ t. g.pending ≡ take 257 f.pending ++ take n (left t f.slot)) → IsRest new g
-rest_read None new f g n e none same reads below bytes = subst (λ (o : Option Told). IsRest o g) (sym reads.told) (record { ended = tt; none = tt })
-rest_read (Some t) new f g n e none same reads below bytes =
+rest_read None new f g n e none same taken few reads below bytes = subst (λ (o : Option Told). IsRest o g) (sym reads.told) (record { ended = tt; none = tt; fewer = omega arith })
+rest_read (Some t) new f g n e none same taken few reads below bytes =
     let nothing : left (taken_from f.slot n t) g.slot ≡ [] =
     ap (λ (s : ℕ). left (taken_from f.slot n t) s) same ∙ left-taken_from f.slot t n 0 below ∙ ap (λ (k : ℕ). drop k (left t f.slot)) e ∙ reads.at_end e in
     let front : g.pending ≡ take 257 f.pending = bytes ∙ ap (λ (k : ℕ). take 257 f.pending ++ take k (left t f.slot)) e ∙ append-nil (take 257 f.pending) in
     subst (λ (o : Option Told). IsRest o g) (sym reads.told) (record {
       ended = nothing;
       none = subst (λ (l : List ℕ). All (λ b. is_lf b ≡ false) l) (sym front) (All-take (λ b. is_lf b ≡ false) 257 f.pending none);
+      fewer = omega arith;
     })
 
+-- where a slot is at its end, no byte more may be taken from it
+none_left : (t : Told) (f : Feed) → left t f.slot ≡ [] → take (2 ^ 40 - f.taken) (left t f.slot) ≡ []
+none_left t f end = ap (take (2 ^ 40 - f.taken)) end ∙ take_all (2 ^ 40 - f.taken) [] (omega arith)
+
+-- and it doesn't meet the limit
+under_limit : (t : Told) (f : Feed) → left t f.slot ≡ [] → f.taken < 2 ^ 40 → ¬ MeetsLimit f t
+under_limit t f end few = λ limit. let size : length (left t f.slot) ≡ 0 = ap length end in omega arith
+
 pub front_last : (told : Option Told) (g : Feed) (len whole : ℕ) → IsRest told g → 0 < whole → len ≡ whole → whole ≡ length g.pending → IsFront told g len whole
-front_last told g len whole rest some e all = record {
+front_last told g len whole last some e all = record {
   some = some;
   within = omega arith;
   inside = omega arith;
-  reads = each told rest;
+  reads = each told last;
+  ended = each_ended told last;
 }
   where
-    each : (told : Option Told) → IsRest told g → IfSome told (λ t. seen_lines (g.pending ++ left t g.slot) ≡ seen (take len g.pending) ∷ seen_lines (drop whole g.pending ++ left t g.slot))
-    each None rest = tt
-    each (Some t) rest =
+    each : (told : Option Told) → IsRest told g → IfSome told (λ t. seen_lines (rest t g) ≡ seen (take len g.pending) ∷ seen_lines (rest t (answered whole g)))
+    each None last = tt
+    each (Some t) last =
         let p = g.pending in
-        let nothing : drop whole p ++ left t g.slot ≡ [] = ap (λ (l : List ℕ). l ++ left t g.slot) (drop_all whole p (omega arith)) ∙ rest.ended in
-        ap (λ (l : List ℕ). seen_lines (p ++ l)) rest.ended
+        let more = take (2 ^ 40 - g.taken) (left t g.slot) in
+        let nothing : drop whole p ++ more ≡ [] = ap (λ (l : List ℕ). l ++ more) (drop_all whole p (omega arith)) ∙ none_left t g last.ended in
+        ap (λ (l : List ℕ). seen_lines (p ++ l)) (none_left t g last.ended)
         ∙ ap seen_lines (append-nil p)
-        ∙ lines_last p rest.none (omega arith)
+        ∙ lines_last p last.none (omega arith)
         ∙ ap (λ (l : List ℕ). seen l ∷ []) (sym (take_all len p (omega arith)))
         ∙ ap (λ (l : List ℕ). seen (take len p) ∷ seen_lines l) (sym nothing)
 
+    each_ended : (told : Option Told) → IsRest told g → IfSome told (λ t. MeetsLimit g t → seen_ended_lines (rest t g) ≡ seen (take len g.pending) ∷ seen_ended_lines (rest t (answered whole g)))
+    each_ended None last = tt
+    each_ended (Some t) last = λ limit. absurd (under_limit t g last.ended last.fewer limit)
+
 pub rest_ended : (told : Option Told) (g : Feed) → IsRest told g → g.pending ≡ [] → IsAtEnd told g
-rest_ended told g rest none = (none, rest.ended)
+rest_ended told g last none = (none, last.ended)
 
 -- where a line ends, one does
 pub needs_none : (f : Feed) (len whole : ℕ) → EndsLine f.pending len whole → NeedsMore f → ⊥
@@ -212,12 +257,25 @@ length_pending block at end within = length-take-le (end - at) (drop at block) (
 pub ahead_end : (told : Option Told) (f : Feed) → IsAtEnd told f → ahead told f ≡ option_map (λ _. []) told
 ahead_end None f end = refl
 ahead_end (Some t) f end =
-    ap (λ (l : List ℕ). Some (seen_lines (l ++ left t f.slot))) end.0 ∙ ap (λ (l : List ℕ). Some (seen_lines l)) end.1
+    ap (λ (l : List ℕ). Some (seen_lines (l ++ take (2 ^ 40 - f.taken) (left t f.slot)))) end.0 ∙ ap (λ (l : List ℕ). Some (seen_lines l)) (none_left t f end.1)
+
+-- where 2^40 bytes were taken and no line ends in those not yet answered, no line ahead has an end
+pub ended_ahead_none : (told : Option Told) (f : Feed) → f.taken ≡ 2 ^ 40 → NeedsMore f → ended_ahead told f ≡ option_map (λ _. []) told
+ended_ahead_none None f all none = refl
+ended_ahead_none (Some t) f all none =
+    let no_more : 2 ^ 40 - f.taken ≡ 0 = omega arith in
+    ap (λ (k : ℕ). Some (seen_ended_lines (f.pending ++ take k (left t f.slot)))) no_more
+    ∙ ap (λ (l : List ℕ). Some (seen_ended_lines l)) (append-nil f.pending)
+    ∙ ap (λ (l : List (Option (List ℕ))). Some l) (ended_none f.pending none)
 
 -- a line in front, and those behind it
-pub ahead_front : (told : Option Told) (f : Feed) (len whole : ℕ) → IsFront told f len whole → ahead told f ≡ option_map (λ rest. seen (take len f.pending) ∷ rest) (ahead told (answered whole f))
+pub ahead_front : (told : Option Told) (f : Feed) (len whole : ℕ) → IsFront told f len whole → ahead told f ≡ option_map (λ more. seen (take len f.pending) ∷ more) (ahead told (answered whole f))
 ahead_front None f len whole front = refl
 ahead_front (Some t) f len whole front = ap (λ (l : List (Option (List ℕ))). Some l) front.reads
+
+pub ended_ahead_front : (told : Option Told) (f : Feed) (len whole : ℕ) → IsFront told f len whole → IfSome told (MeetsLimit f) → ended_ahead told f ≡ option_map (λ more. seen (take len f.pending) ∷ more) (ended_ahead told (answered whole f))
+ended_ahead_front None f len whole front limit = refl
+ended_ahead_front (Some t) f len whole front limit = ap (λ (l : List (Option (List ℕ))). Some l) (front.ended limit)
 
 -- where a feed is at its end, all that the slot had was taken
 pub taken_all : (a b : Option Told) (slot n : ℕ) → IfSome a (λ t. slot < length t.slots) → Advances a b slot n → IfSome b (λ t. left t slot ≡ []) → IfSome a (λ t. length (left t slot) ≡ n)
@@ -228,3 +286,73 @@ taken_all (Some t) b slot n below so_far end =
     let size : length (drop n (left t slot)) ≡ 0 = ap length (sym (left-taken_from slot t n 0 below) ∙ now) in
     let within : n ≤ length (left t slot) = so_far.within in
     omega (arith, length-drop n (left t slot))
+
+-- what becomes of a feed over a slot from which bytes are taken
+module _ (a b : Option Told) (f g : Feed) (below : IfSome a (λ t. f.slot < length t.slots)) (same : g.slot ≡ f.slot) (later : f.taken ≤ g.taken) (moved : Advances a b f.slot (g.taken - f.taken)) where
+  -- a slot that meets the limit goes on to
+  pub limit_later : IfSome a (MeetsLimit f) → IfSome b (MeetsLimit g)
+  limit_later = each a below moved
+    where
+      each : (a : Option Told) → IfSome a (λ t. f.slot < length t.slots) → Advances a b f.slot (g.taken - f.taken) → IfSome a (MeetsLimit f) → IfSome b (MeetsLimit g)
+      each None below moved limit = subst (λ (o : Option Told). IfSome o (MeetsLimit g)) (sym moved.told) tt
+      each (Some t) below moved limit =
+          let n = g.taken - f.taken in
+          let size : length (left (taken_from f.slot n t) g.slot) ≡ length (left t f.slot) - n =
+          ap (λ (s : ℕ). length (left (taken_from f.slot n t) s)) same ∙ ap length (left-taken_from f.slot t n 0 below) ∙ length-drop n (left t f.slot) in
+          let within : n ≤ length (left t f.slot) = moved.within in
+          let then : MeetsLimit g (taken_from f.slot n t) = omega arith in
+          subst (λ (o : Option Told). IfSome o (MeetsLimit g)) (sym moved.told) then
+
+  -- and a slot from which 2^40 bytes were taken met it before
+  pub limit_before : g.taken ≡ 2 ^ 40 → IfSome a (MeetsLimit f)
+  limit_before all = each a moved
+    where
+      each : (a : Option Told) → Advances a b f.slot (g.taken - f.taken) → IfSome a (MeetsLimit f)
+      each None moved = tt
+      each (Some t) moved = let within : g.taken - f.taken ≤ length (left t f.slot) = moved.within in omega arith
+
+  -- one that was taken to its end didn't
+  pub limit_not : g.taken < 2 ^ 40 → IfSome b (λ t. left t g.slot ≡ []) → IfSome a (λ t. ¬ MeetsLimit f t)
+  limit_not few end = each a (taken_all a b f.slot (g.taken - f.taken) below moved (subst (λ (s : ℕ). IfSome b (λ t. left t s ≡ [])) same end))
+    where
+      each : (a : Option Told) → IfSome a (λ t. length (left t f.slot) ≡ g.taken - f.taken) → IfSome a (λ t. ¬ MeetsLimit f t)
+      each None size = tt
+      each (Some t) size = λ limit. omega arith
+
+  module _ (kept : ended_ahead b g ≡ ended_ahead a f) where
+    -- the next line isn't to be had
+    pub stuck_before : g.taken ≡ 2 ^ 40 → NeedsMore g → IfSome a (IsStuck f)
+    stuck_before all none = each a (limit_before all) (sym kept ∙ ended_ahead_none b g all none)
+      where
+        each : (a : Option Told) → IfSome a (MeetsLimit f) → ended_ahead a f ≡ option_map (λ _. []) b → IfSome a (IsStuck f)
+        each None limit is = tt
+        each (Some t) limit is = record { limit = limit; none = first b is }
+          where
+            first : (b : Option Told) → ended_ahead (Some t) f ≡ option_map (λ _. []) b → seen_ended_lines (rest t f) ≡ []
+            first None is = absurd (cc is)
+            first (Some u) is = cc is
+
+    pub stuck_turns : (e : FeedError) → IfTurns (λ n. (n ≡ 2 ^ 40) × (g.taken ≡ 2 ^ 40) × NeedsMore g) e → IfTurns (λ _. IfSome a (IsStuck f)) e
+    stuck_turns (Shelf fault) h = tt
+    stuck_turns (Turns n) h = stuck_before h.1 h.2
+    stuck_turns Memory h = tt
+
+    -- the next line is there
+    pub not_stuck_front : (len whole : ℕ) → IsFront b g len whole → IfSome a (λ t. ¬ IsStuck f t)
+    not_stuck_front len whole front = each a limit_later kept
+      where
+        each : (a : Option Told) → (IfSome a (MeetsLimit f) → IfSome b (MeetsLimit g)) → ended_ahead b g ≡ ended_ahead a f → IfSome a (λ t. ¬ IsStuck f t)
+        each None on is = tt
+        each (Some t) on is = λ stuck. first b (sym (ended_ahead_front b g len whole front (on stuck.limit)) ∙ is ∙ ap (λ (l : List (Option (List ℕ))). Some l) stuck.none)
+          where
+            first : (b : Option Told) → option_map (λ more. seen (take len g.pending) ∷ more) (ended_ahead b (answered whole g)) ≡ Some [] → ⊥
+            first None is = cc is
+            first (Some u) is = cc is
+
+  -- there is no further line
+  pub not_stuck_end : g.taken < 2 ^ 40 → IfSome b (λ t. left t g.slot ≡ []) → IfSome a (λ t. ¬ IsStuck f t)
+  not_stuck_end few end = each a (limit_not few end)
+    where
+      each : (a : Option Told) → IfSome a (λ t. ¬ MeetsLimit f t) → IfSome a (λ t. ¬ IsStuck f t)
+      each None not = tt
+      each (Some t) not = λ stuck. not stuck.limit

@@ -6,7 +6,7 @@ use Rattle.std.proofs.lemmas.List.{drop_more, length-take-le, append-nil}
 use Rattle.std.proofs.lemmas.List.Splits.{slice_split_at, slice_split_none}
 use Rattle.std.proofs.lemmas.List.Elements.{All-head, All-tail, All-take}
 use Rattle.std.proofs.lemmas.Bool.Decides.{nat_tests}
-use Rattle.text_lines.specs.Lines.{is_lf, without_cr, lines_of, lines, seen, seen_lines}
+use Rattle.text_lines.specs.Lines.{is_lf, without_cr, lines_by, unended, seen, seen_lines, seen_ended_lines}
 use Rattle.text_lines.specs.Feed.{EndsLine}
 
 -- there is a first part
@@ -46,17 +46,23 @@ slice_split-append p (x ∷ xs) ys none =
     ∙ ap (onto_first x) (slice_split-append p xs ys (All-tail (λ y. p y ≡ false) x xs none))
     ∙ onto_more x xs (slice_split p ys)
 
--- a line that has an end
-lines_of-ended : (part : List ℕ) (parts : List (List ℕ)) → IsSomeParts parts → lines_of (part ∷ parts) ≡ without_cr part ∷ lines_of parts
-lines_of-ended part parts some = ap (λ (l : List (List ℕ)). lines_of (part ∷ l)) some.are ∙ ap (λ (l : List (List ℕ)). without_cr part ∷ lines_of l) (sym some.are)
+-- what counts of the lines of a text, of which `last` makes the last one or none
+abbrev seen_by : (List ℕ → List (List ℕ)) → List ℕ → List (Option (List ℕ))
+seen_by last text = map seen (lines_by last (slice_split is_lf text))
 
-pub lines-ended : (xs ys : List ℕ) → All (λ b. is_lf b ≡ false) xs → lines (xs ++ 10 ∷ ys) ≡ without_cr xs ∷ lines ys
-lines-ended xs ys none = ap lines_of (slice_split_at is_lf xs 10 ys none refl) ∙ lines_of-ended xs (slice_split is_lf ys) (split_some is_lf ys)
+-- a line that has an end
+lines_by-ended : (last : List ℕ → List (List ℕ)) (part : List ℕ) (parts : List (List ℕ)) → IsSomeParts parts → lines_by last (part ∷ parts) ≡ without_cr part ∷ lines_by last parts
+lines_by-ended last part parts some = ap (λ (l : List (List ℕ)). lines_by last (part ∷ l)) some.are ∙ ap (λ (l : List (List ℕ)). without_cr part ∷ lines_by last l) (sym some.are)
+
+seen_by-ended : (last : List ℕ → List (List ℕ)) (xs ys : List ℕ) → All (λ b. is_lf b ≡ false) xs → seen_by last (xs ++ 10 ∷ ys) ≡ seen (without_cr xs) ∷ seen_by last ys
+seen_by-ended last xs ys none =
+    ap (λ (l : List (List ℕ)). map seen (lines_by last l)) (slice_split_at is_lf xs 10 ys none refl)
+    ∙ ap (map seen) (lines_by-ended last xs (slice_split is_lf ys) (split_some is_lf ys))
 
 -- the first line of the bytes and those behind it
-pub lines_front : (bytes rest : List ℕ) (len whole : ℕ) → EndsLine bytes len whole → seen_lines (bytes ++ rest) ≡ seen (take len bytes) ∷ seen_lines (drop whole bytes ++ rest)
-lines_front bytes rest len zero ends = absurd (let h = ends.some in omega arith)
-lines_front bytes rest len (suc n) ends =
+front_by : (last : List ℕ → List (List ℕ)) (bytes rest : List ℕ) (len whole : ℕ) → EndsLine bytes len whole → seen_by last (bytes ++ rest) ≡ seen (take len bytes) ∷ seen_by last (drop whole bytes ++ rest)
+front_by last bytes rest len zero ends = absurd (let h = ends.some in omega arith)
+front_by last bytes rest len (suc n) ends =
     let m = suc n - 1 in
     let less : m < length bytes = (let h = ends.within in omega arith) in
     let next : m + 1 ≡ suc n = omega arith in
@@ -67,16 +73,26 @@ lines_front bytes rest len (suc n) ends =
     ∙ ap (λ (k : ℕ). take m bytes ++ 10 ∷ drop k bytes) next in
     let whole : bytes ++ rest ≡ take m bytes ++ 10 ∷ (drop (suc n) bytes ++ rest) =
     ap (λ (l : List ℕ). l ++ rest) cut ∙ Rattle.std.proofs.Common.append_assoc (take m bytes) (10 ∷ drop (suc n) bytes) rest in
-    ap seen_lines whole
-    ∙ ap (map seen) (lines-ended (take m bytes) (drop (suc n) bytes ++ rest) ends.none_before)
-    ∙ ap (λ (l : List ℕ). seen l ∷ seen_lines (drop (suc n) bytes ++ rest)) (sym ends.line)
+    ap (seen_by last) whole
+    ∙ seen_by-ended last (take m bytes) (drop (suc n) bytes ++ rest) ends.none_before
+    ∙ ap (λ (l : List ℕ). seen l ∷ seen_by last (drop (suc n) bytes ++ rest)) (sym ends.line)
+
+pub lines_front : (bytes rest : List ℕ) (len whole : ℕ) → EndsLine bytes len whole → seen_lines (bytes ++ rest) ≡ seen (take len bytes) ∷ seen_lines (drop whole bytes ++ rest)
+lines_front = front_by unended
+
+pub ended_front : (bytes rest : List ℕ) (len whole : ℕ) → EndsLine bytes len whole → seen_ended_lines (bytes ++ rest) ≡ seen (take len bytes) ∷ seen_ended_lines (drop whole bytes ++ rest)
+ended_front = front_by (λ part. [])
 
 -- the last line, which has no end
 pub lines_last : (bytes : List ℕ) → All (λ b. is_lf b ≡ false) bytes → 0 < length bytes → seen_lines bytes ≡ seen bytes ∷ []
 lines_last bytes none some =
     let test : (length bytes == 0) ≡ false = grind (arith, nat_tests) in
-    ap (λ (l : List (List ℕ)). map seen (lines_of l)) (slice_split_none is_lf bytes none)
+    ap (λ (l : List (List ℕ)). map seen (lines_by unended l)) (slice_split_none is_lf bytes none)
     ∙ ap (λ (b : Bool). map seen (cond b [] (bytes ∷ []))) test
+
+-- no end, and so no line that has one
+pub ended_none : (bytes : List ℕ) → All (λ b. is_lf b ≡ false) bytes → seen_ended_lines bytes ≡ []
+ended_none bytes none = ap (λ (l : List (List ℕ)). map seen (lines_by (λ part. []) l)) (slice_split_none is_lf bytes none)
 
 -- of a long line nothing counts
 seen_long : (line : List ℕ) → 255 < length line → seen line ≡ None
@@ -89,37 +105,52 @@ without_cr-length line = pick (Rattle.std.specs.Prelude.slice_index line (length
     pick true line = let size : length (take (length line - 1) line) ≡ length line - 1 = length-take-le (length line - 1) line (omega arith) in omega arith
     pick false line = omega arith
 
-abbrev rest_of : List (List ℕ) → List (Option (List ℕ))
-rest_of [] = []
-rest_of (part ∷ parts) = map seen (lines_of parts)
+-- what counts of parts of which the first one is long; `tail` is what counts of a last part that is long
+abbrev behind_long : (List ℕ → List (List ℕ)) → List (Option (List ℕ)) → List (List ℕ) → List (Option (List ℕ))
+behind_long last tail [] = tail
+behind_long last tail (part ∷ parts) = None ∷ map seen (lines_by last (part ∷ parts))
 
--- the lines of parts of which the first one is long
-seen_first : (part : List ℕ) (parts : List (List ℕ)) → 256 < length part → map seen (lines_of (part ∷ parts)) ≡ None ∷ map seen (lines_of parts)
-seen_first part [] long =
-    let test : (length part == 0) ≡ false = grind (arith, nat_tests) in
-    ap (λ (b : Bool). map seen (cond b [] (part ∷ []))) test ∙ ap (λ (o : Option (List ℕ)). o ∷ []) (seen_long part (omega arith))
-seen_first part (next ∷ parts) long =
-    ap (λ (o : Option (List ℕ)). o ∷ map seen (lines_of (next ∷ parts))) (seen_long (without_cr part) (let h = without_cr-length part in omega arith))
+module _ (last : List ℕ → List (List ℕ)) (tail : List (Option (List ℕ))) (long_last : (part : List ℕ) → 256 < length part → map seen (last part) ≡ tail) where
+  seen_first : (part : List ℕ) (parts : List (List ℕ)) → 256 < length part → map seen (lines_by last (part ∷ parts)) ≡ behind_long last tail parts
+  seen_first part [] long = long_last part long
+  seen_first part (next ∷ parts) long =
+      ap (λ (o : Option (List ℕ)). o ∷ map seen (lines_by last (next ∷ parts))) (seen_long (without_cr part) (let h = without_cr-length part in omega arith))
 
-seen_onto : (xs : List ℕ) (parts : List (List ℕ)) → IsSomeParts parts → 256 < length xs → map seen (lines_of (onto_parts xs parts)) ≡ None ∷ rest_of parts
-seen_onto xs parts some long =
-    ap (λ (l : List (List ℕ)). map seen (lines_of (onto_parts xs l))) some.are
-    ∙ seen_first (xs ++ some.first) some.others (omega (arith, length-append xs some.first))
-    ∙ ap (λ (l : List (List ℕ)). None ∷ rest_of l) (sym some.are)
+  -- what stands behind the first part
+  abbrev others_of : List (List ℕ) → List (List ℕ)
+  others_of [] = []
+  others_of (part ∷ parts) = parts
 
-long_front : (xs rest : List ℕ) → All (λ b. is_lf b ≡ false) xs → 256 < length xs → seen_lines (xs ++ rest) ≡ None ∷ rest_of (slice_split is_lf rest)
-long_front xs rest none long =
-    ap (λ (l : List (List ℕ)). map seen (lines_of l)) (slice_split-append is_lf xs rest none) ∙ seen_onto xs (slice_split is_lf rest) (split_some is_lf rest) long
+  seen_onto : (xs : List ℕ) (parts : List (List ℕ)) → IsSomeParts parts → 256 < length xs → map seen (lines_by last (onto_parts xs parts)) ≡ behind_long last tail (others_of parts)
+  seen_onto xs parts some long =
+      ap (λ (l : List (List ℕ)). map seen (lines_by last (onto_parts xs l))) some.are
+      ∙ seen_first (xs ++ some.first) some.others (omega (arith, length-append xs some.first))
+      ∙ ap (λ (l : List (List ℕ)). behind_long last tail (others_of l)) (sym some.are)
 
--- a line that has 257 bytes and no end yet is long, whatever its other bytes are
+  long_front : (xs rest : List ℕ) → All (λ b. is_lf b ≡ false) xs → 256 < length xs → seen_by last (xs ++ rest) ≡ behind_long last tail (others_of (slice_split is_lf rest))
+  long_front xs rest none long =
+      ap (λ (l : List (List ℕ)). map seen (lines_by last l)) (slice_split-append is_lf xs rest none) ∙ seen_onto xs (slice_split is_lf rest) (split_some is_lf rest) long
+
+  -- a line that has 257 bytes and no end yet is long, whatever its other bytes are
+  cut_by : (bytes rest : List ℕ) → All (λ b. is_lf b ≡ false) bytes → seen_by last (take 257 bytes ++ rest) ≡ seen_by last (bytes ++ rest)
+  cut_by bytes rest none = pick (nat_lt 256 (length bytes)) refl
+    where
+      pick : (b : Bool) → nat_lt 256 (length bytes) ≡ b → seen_by last (take 257 bytes ++ rest) ≡ seen_by last (bytes ++ rest)
+      pick true is =
+          let long : 256 < length bytes = grind (arith, nat_tests) in
+          let size : length (take 257 bytes) ≡ 257 = length-take-le 257 bytes (omega arith) in
+          long_front (take 257 bytes) rest (All-take (λ b. is_lf b ≡ false) 257 bytes none) (omega arith) ∙ sym (long_front bytes rest none long)
+      pick false is =
+          let short : length bytes ≤ 257 = grind (arith, nat_tests) in
+          ap (λ (l : List ℕ). seen_by last (l ++ rest)) (Rattle.std.proofs.lemmas.List.take_all 257 bytes short)
+
 pub lines_cut : (bytes rest : List ℕ) → All (λ b. is_lf b ≡ false) bytes → seen_lines (take 257 bytes ++ rest) ≡ seen_lines (bytes ++ rest)
-lines_cut bytes rest none = pick (nat_lt 256 (length bytes)) refl
+lines_cut = cut_by unended (None ∷ []) long_last
   where
-    pick : (b : Bool) → nat_lt 256 (length bytes) ≡ b → seen_lines (take 257 bytes ++ rest) ≡ seen_lines (bytes ++ rest)
-    pick true is =
-        let long : 256 < length bytes = grind (arith, nat_tests) in
-        let size : length (take 257 bytes) ≡ 257 = length-take-le 257 bytes (omega arith) in
-        long_front (take 257 bytes) rest (All-take (λ b. is_lf b ≡ false) 257 bytes none) (omega arith) ∙ sym (long_front bytes rest none long)
-    pick false is =
-        let short : length bytes ≤ 257 = grind (arith, nat_tests) in
-        ap (λ (l : List ℕ). seen_lines (l ++ rest)) (Rattle.std.proofs.lemmas.List.take_all 257 bytes short)
+    long_last : (part : List ℕ) → 256 < length part → map seen (unended part) ≡ None ∷ []
+    long_last part long =
+        let test : (length part == 0) ≡ false = grind (arith, nat_tests) in
+        ap (λ (b : Bool). map seen (cond b [] (part ∷ []))) test ∙ ap (λ (o : Option (List ℕ)). o ∷ []) (seen_long part (omega arith))
+
+pub ended_cut : (bytes rest : List ℕ) → All (λ b. is_lf b ≡ false) bytes → seen_ended_lines (take 257 bytes ++ rest) ≡ seen_ended_lines (bytes ++ rest)
+ended_cut = cut_by (λ part. []) [] (λ part long. refl)

@@ -3,7 +3,7 @@ use Rattle.std.specs.Prelude.{◌≡◌, ℕ, ◌+◌, ◌-◌, ◌<◌, ◌≤�
 use Rattle.std.specs.Option.{option_map}
 use Rattle.std.specs.List.{All}
 use Rattle.bolt_io.specs.Told.{Told, left, taken_from}
-use Rattle.text_lines.specs.Lines.{is_lf, without_cr, seen, seen_lines}
+use Rattle.text_lines.specs.Lines.{is_lf, without_cr, seen, seen_lines, seen_ended_lines}
 
 -- a slot, the bytes that were taken from it and not yet answered, how many lines were answered and how many bytes taken
 pub record Feed : Type 0 where
@@ -12,9 +12,30 @@ pub record Feed : Type 0 where
   pub lines : ℕ
   pub taken : ℕ
 
+-- what a slot has left, as far as it is read: 2^40 bytes at most
+abbrev pub readable : Told → ℕ → List ℕ
+readable t slot = take (2 ^ 40) (left t slot)
+
+-- the bytes that are not yet answered, of which no more than 2^40 are taken in all
+abbrev pub rest : Told → Feed → List ℕ
+rest t feed = feed.pending ++ take (2 ^ 40 - feed.taken) (left t feed.slot)
+
 -- the lines that are still to come, of a feed over a shelf that tells its bytes
 abbrev pub ahead : Option Told → Feed → Option (List (Option (List ℕ)))
-ahead told feed = option_map (λ t. seen_lines (feed.pending ++ left t feed.slot)) told
+ahead told feed = option_map (λ t. seen_lines (rest t feed)) told
+
+-- those of them that an LF ends
+abbrev pub ended_ahead : Option Told → Feed → Option (List (Option (List ℕ)))
+ended_ahead told feed = option_map (λ t. seen_ended_lines (rest t feed)) told
+
+-- the slot has as many bytes as are taken at most: once 2^40 are taken, another read is needed to see its end
+abbrev pub MeetsLimit : Feed → Told → Type 0
+MeetsLimit feed t = 2 ^ 40 ≤ feed.taken + length (left t feed.slot)
+
+-- the next line isn't to be had: no LF ends it in the bytes that are taken at most, and the slot may have more
+pub record IsStuck (feed : Feed) (t : Told) : Type 0 where
+  pub limit : MeetsLimit feed t
+  pub none : seen_ended_lines (rest t feed) ≡ []
 
 -- nothing more is to come: all bytes of the slot were taken and answered
 abbrev pub IsAtEnd : Option Told → Feed → Type 0
@@ -34,16 +55,18 @@ pub record Front : Type 0 where
   pub len : ℕ
   pub whole : ℕ
 
--- the first `len` of the bytes not yet answered are the next line, and `whole` of them are it with its end
+-- the feed once that many bytes were answered as a line
+abbrev pub answered : ℕ → Feed → Feed
+answered whole feed = record feed { pending = drop whole feed.pending; lines = feed.lines + 1 }
+
+-- the first `len` of the bytes not yet answered are the next line, and `whole` of them are it with its end; where the slot has
+-- 2^40 bytes or more, an LF ends it
 pub record IsFront (told : Option Told) (feed : Feed) (len whole : ℕ) : Type 0 where
   pub some : 0 < whole
   pub within : whole ≤ length feed.pending
   pub inside : len ≤ whole
-  pub reads : IfSome told (λ t. seen_lines (feed.pending ++ left t feed.slot) ≡ seen (take len feed.pending) ∷ seen_lines (drop whole feed.pending ++ left t feed.slot))
-
--- the feed once that many bytes were answered as a line
-abbrev pub answered : ℕ → Feed → Feed
-answered whole feed = record feed { pending = drop whole feed.pending; lines = feed.lines + 1 }
+  pub reads : IfSome told (λ t. seen_lines (rest t feed) ≡ seen (take len feed.pending) ∷ seen_lines (rest t (answered whole feed)))
+  pub ended : IfSome told (λ t. MeetsLimit feed t → seen_ended_lines (rest t feed) ≡ seen (take len feed.pending) ∷ seen_ended_lines (rest t (answered whole feed)))
 
 -- an LF ends the first line of the bytes, which has `len` bytes, and `whole` with its end
 pub record EndsLine (bytes : List ℕ) (len whole : ℕ) : Type 0 where

@@ -12,15 +12,23 @@ is_no_lf b = not (is_lf b)
 abbrev pub without_cr : List ℕ → List ℕ
 without_cr line = if slice_index line (length line - 1) == 13 then take (length line - 1) line else line
 
--- The lines of what stands between the LFs: an LF ends each part but the last one, and nothing after the last LF is no line
-abbrev pub lines_of : List (List ℕ) → List (List ℕ)
-lines_of [] = []
-lines_of (part ∷ []) = if length part == 0 then [] else part ∷ []
-lines_of (part ∷ next ∷ parts) = without_cr part ∷ lines_of (next ∷ parts)
+-- the lines of what stands between the LFs: an LF ends each part but the last one, of which `last` makes a line or none
+abbrev pub lines_by : (List ℕ → List (List ℕ)) → List (List ℕ) → List (List ℕ)
+lines_by last [] = []
+lines_by last (part ∷ []) = last part
+lines_by last (part ∷ next ∷ parts) = without_cr part ∷ lines_by last (next ∷ parts)
+
+-- nothing after the last LF is no line
+abbrev pub unended : List ℕ → List (List ℕ)
+unended part = if length part == 0 then [] else part ∷ []
 
 -- the lines of a text, each without its end
 abbrev pub lines : List ℕ → List (List ℕ)
-lines text = lines_of (slice_split is_lf text)
+lines text = lines_by unended (slice_split is_lf text)
+
+-- those of them that an LF ends
+abbrev pub ended_lines : List ℕ → List (List ℕ)
+ended_lines text = lines_by (λ part. []) (slice_split is_lf text)
 
 -- a line, its comment included, has at most 255 bytes
 abbrev pub is_long : List ℕ → Bool
@@ -32,3 +40,6 @@ seen line = if is_long line then None else Some line
 
 abbrev pub seen_lines : List ℕ → List (Option (List ℕ))
 seen_lines text = map seen (lines text)
+
+abbrev pub seen_ended_lines : List ℕ → List (Option (List ℕ))
+seen_ended_lines text = map seen (ended_lines text)

@@ -4,7 +4,7 @@ ghost use Rattle.std.specs.List.{prefix_len};
 ghost use Rattle.std.specs.Option.{option_map};
 ghost use Rattle.bolt_io.specs.Told.{left};
 ghost use Rattle.text_lines.specs.Lines.{is_no_lf, without_cr, seen};
-ghost use Rattle.text_lines.specs.Feed.{Feed, ahead, IsAtEnd, NeedsMore, Advances, IsFront, EndsLine, answered, ReadsOn};
+ghost use Rattle.text_lines.specs.Feed.{Feed, ahead, ended_ahead, IsStuck, IsAtEnd, NeedsMore, Advances, IsFront, EndsLine, answered, ReadsOn};
 ghost use Rattle.text_lines.specs.Answers.{told_line, number_of, BlamesShelf, IfTurns};
 
 use crate::feed::{FeedError, Line};
@@ -222,6 +222,7 @@ impl LineFeed {
         requires slot { self.old.slot < S.opened shelf.old }
         ensures line { IfOk result (λ r. MatchOption r (IsAtEnd (S.told shelf.new) self.new) (λ f. IsFront (S.told shelf.new) self.new f.len f.whole)) }
         ensures ahead { ahead (S.told shelf.new) self.new ≡ ahead (S.told shelf.old) self.old }
+        ensures ended_ahead { ended_ahead (S.told shelf.new) self.new ≡ ended_ahead (S.told shelf.old) self.old }
         ensures slot { self.new.slot ≡ self.old.slot }
         ensures lines { self.new.lines ≡ self.old.lines }
         ensures most_lines { self.new.lines ≤ 2 ^ 40 }
@@ -292,9 +293,16 @@ impl LineFeed {
 
         // After an error all lines are still to come.
         ensures kept { OnErr result (ahead (S.told shelf.new) self.new ≡ ahead (S.told shelf.old) self.old) }
+        ensures kept_ended { OnErr result (ended_ahead (S.told shelf.new) self.new ≡ ended_ahead (S.told shelf.old) self.old) }
         ensures kept_lines { OnErr result (self.new.lines ≡ self.old.lines) }
+
+        // Turns comes exactly where 2^40 bytes were taken and another read is needed.
         ensures turns { IfErr result (IfTurns (λ n. (n ≡ 2 ^ 40) × (self.new.taken ≡ 2 ^ 40) × NeedsMore self.new)) }
         ensures turns_due { self.old.taken ≡ 2 ^ 40 → NeedsMore self.old → result ≡ Err (FeedError.Turns (2 ^ 40)) }
+        ensures stuck { IfErr result (IfTurns (λ _. IfSome (S.told shelf.old) (IsStuck self.old))) }
+        ensures not_stuck { OnOk result (IfSome (S.told shelf.old) (λ t. ¬ IsStuck self.old t)) }
+
+        // The other errors.
         ensures cause { IfErr result (BlamesShelf (S.faults shelf.old) (S.faults shelf.new)) }
         ensures calm { OnOk result (S.faults shelf.new ≡ S.faults shelf.old) }
         ensures no_fewer_faults { S.faults shelf.old ≤ S.faults shelf.new }

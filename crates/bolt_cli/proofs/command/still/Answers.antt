@@ -1,4 +1,4 @@
-use Rattle.std.proofs.Common.{◌≡◌, ◌≢◌, ◌⊎◌, ℕ, inl, inr, refl, arith}
+use Rattle.std.proofs.Common.{refl}
 use Rattle.run_text.specs.Words.{texts}
 use Rattle.bolt_cli.proofs.ReplySteps.{Replied-wrong, Replied-right, not_long-right}
 use Rattle.bolt_cli.proofs.command.still.Goals as goal
@@ -18,10 +18,5 @@ returns-in-Err-run-clause-reply g c =
     Replied-right (g.S.Shelf.told c.args.shelf.now) (texts c.args.words.now) c.word_at.result.now c.word_at-in-None.result.now c.in-None.ensures c.word_at.ensures c.word_at-in-None.ensures _ _ _ c.in-Err-run.ensures.reply
 
 pub returns-in-Ok-run-clause-not_long : goal.returns-in-Ok-run-clause-not_long
-returns-in-Ok-run-clause-not_long g c = λ status.
-    not_long-right (g.S.Shelf.told c.args.shelf.now) (texts c.args.words.now) c.word_at.result.now c.word_at-in-None.result.now c.in-None.ensures c.word_at.ensures c.word_at-in-None.ensures (c.in-Ok-run.ensures.short (not_four status))
-  where
-    not_four : {n : ℕ} → ((n ≡ 0) ⊎ (n ≡ 1)) ⊎ (n ≡ 2) → n ≢ 4
-    not_four (inl (inl is)) = omega (arith, is)
-    not_four (inl (inr is)) = omega (arith, is)
-    not_four (inr is) = omega (arith, is)
+returns-in-Ok-run-clause-not_long g c =
+    not_long-right (g.S.Shelf.told c.args.shelf.now) (texts c.args.words.now) c.word_at.result.now c.word_at-in-None.result.now c.in-None.ensures c.word_at.ensures c.word_at-in-None.ensures c.in-Ok-run.ensures.not_long

@@ -1,12 +1,14 @@
 use Rattle.std.proofs.Common.{◌≡◌, ◌+◌, ◌-◌, ◌≤◌, ◌^◌, None}
-use Rattle.text_lines.specs.Feed.{Advances}
+use Rattle.std.specs.Prelude.{IfSome}
+use Rattle.text_lines.specs.Feed.{Advances, MeetsLimit}
 use Rattle.graph_text.specs.BatchCode.{IsPaired, batches_ahead}
-use Rattle.graph_text.proofs.BatchLemmas.{open_ahead}
+use Rattle.graph_text.proofs.BatchLemmas.{open_ahead, commit_ahead}
 use Rattle.graph_text.proofs.batch_reader.read_batch.Given as goal
 
 abbrev pub invariant-lines : goal.invariant-lines
 invariant-lines g l = record {
   read : open_ahead l.open (g.S.Shelf.told l.shelf) l.feed ≡ batches_ahead (g.S.Shelf.told l.initial.shelf) l.initial.feed;
+  ended : IfSome (g.S.Shelf.told l.initial.shelf) (MeetsLimit l.initial.feed) → commit_ahead (g.S.Shelf.told l.shelf) l.feed ≡ commit_ahead (g.S.Shelf.told l.initial.shelf) l.initial.feed;
   paired : IsPaired l.open;
   begun : l.feed.lines ≡ l.initial.feed.lines → l.open.first_line ≡ None;
   lines : l.initial.feed.lines ≤ l.feed.lines;

@@ -1,10 +1,13 @@
-use Rattle.std.proofs.Common.{◌≡◌, ◌-◌, ◌<◌, ◌^◌, ◌∙◌, ap, sym, subst, refl, arith, ℕ, [], length, Option, Some, None}
+use Rattle.std.proofs.Common.{◌≡◌, ◌-◌, ◌<◌, ◌^◌, ◌∙◌, Err, ap, sym, subst, refl, arith, rules, ℕ, [], length, Option, Some, None}
 use Rattle.std.specs.Prelude.{IfSome}
 use Rattle.bolt_base.specs.Graph.{IsGood}
 use Rattle.bolt_io.specs.Told.{Told, left}
 use Rattle.bolt_io.proofs.TakenLemmas.{slot_told}
-use Rattle.text_lines.specs.Feed.{Feed, Advances}
+use Rattle.text_lines.specs.Feed.{Feed, Advances, readable}
 use Rattle.text_lines.proofs.FeedLemmas.{taken_all}
+use Rattle.graph_text.specs.GraphText.{graph_of}
+use Rattle.graph_text.specs.Refusals.{IsCutShort}
+use Rattle.graph_text.proofs.ReadLemmas.{graph_read, graph_bad, graph_cut, graph_not_cut, line_then, turns_then}
 use Rattle.graph_text.specs.DraftCode.{draft_of}
 use Rattle.graph_text.specs.DraftGood.{IsSound}
 use Rattle.graph_text.proofs.SoundLemmas.{sound_none, good_complete}
@@ -32,3 +35,25 @@ returns-clause-short g c =
     let ended = subst (λ (s : ℕ). IfSome (g.S.Shelf.told c.read_lines.new.shelf) (λ t. left t s ≡ [])) at c.in_ok-read_lines.ensures.end.1 in
     let few = c.in_ok-read_lines.ensures.fewer in
     shorter (g.S.Shelf.told c.args.shelf.now) c.args.slot n (omega arith) (taken_all _ _ c.args.slot n below moved ended)
+
+pub returns-clause-graph : goal.returns-clause-graph
+returns-clause-graph g c =
+    graph_read c.args.limits.now (g.S.Shelf.told c.args.shelf.now) c.args.slot c.new-feed.result c.new-feed.ensures (draft_of c.new-draft.result) c.new-draft.ensures.draft (draft_of c.read_lines.new.draft) _ c.in_ok-graph.ensures c.in_ok-read_lines.ensures.read
+
+pub returns-in_err-read_lines-clause-line : goal.returns-in_err-read_lines-clause-line
+returns-in_err-read_lines-clause-line g c =
+    let h = line_then c.in_err-read_lines.field-0.0 _ (λ number cause. IfSome (g.S.Shelf.told c.args.shelf.now) (λ t. graph_of c.args.limits.now (readable t c.args.slot) ≡ Err (record { line = number; cause = cause })))
+    (λ number cause. graph_bad c.args.limits.now (g.S.Shelf.told c.args.shelf.now) c.args.slot c.new-feed.result c.new-feed.ensures (draft_of c.new-draft.result) c.new-draft.ensures.draft (record { line = number; cause = cause })) c.in_err-read_lines.ensures.bad in
+    search (rules, h)
+
+pub returns-in_err-read_lines-clause-cut_short : goal.returns-in_err-read_lines-clause-cut_short
+returns-in_err-read_lines-clause-cut_short g c =
+    let h = turns_then c.in_err-read_lines.field-0.0 _ (λ _. IfSome (g.S.Shelf.told c.args.shelf.now) (IsCutShort c.args.limits.now c.args.slot))
+    (λ _. graph_cut c.args.limits.now (g.S.Shelf.told c.args.shelf.now) c.args.slot c.new-feed.result c.new-feed.ensures (draft_of c.new-draft.result) c.new-draft.ensures.draft) c.in_err-read_lines.ensures.cut_short in
+    search (rules, h)
+
+pub returns-in_err-read_lines-clause-early : goal.returns-in_err-read_lines-clause-early
+returns-in_err-read_lines-clause-early g c =
+    let h = line_then c.in_err-read_lines.field-0.0 _ (λ _ _. IfSome (g.S.Shelf.told c.args.shelf.now) (λ t. ¬ IsCutShort c.args.limits.now c.args.slot t))
+    (λ number cause. graph_not_cut c.args.limits.now (g.S.Shelf.told c.args.shelf.now) c.args.slot c.new-feed.result c.new-feed.ensures (draft_of c.new-draft.result) c.new-draft.ensures.draft (record { line = number; cause = cause })) c.in_err-read_lines.ensures.early in
+    search (rules, h)

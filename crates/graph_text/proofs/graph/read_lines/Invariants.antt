@@ -1,15 +1,18 @@
 use Rattle.std.proofs.Common.{◌≡◌, ◌+◌, ◌-◌, ◌≤◌, ◌^◌}
+use Rattle.std.specs.Prelude.{IfSome}
 use Rattle.std.specs.Option.{option_map}
-use Rattle.text_lines.specs.Feed.{ahead, Advances}
+use Rattle.text_lines.specs.Feed.{ahead, ended_ahead, Advances, MeetsLimit}
 use Rattle.graph_text.specs.GraphText.{read}
 use Rattle.graph_text.specs.DraftCode.{draft_of, IsTallied}
 use Rattle.graph_text.specs.DraftGood.{Grows}
-use Rattle.graph_text.proofs.ReadLemmas.{read_ahead}
 use Rattle.graph_text.proofs.graph.read_lines.Given as goal
 
 abbrev pub invariant-lines : goal.invariant-lines
 invariant-lines g l = record {
-  read : read_ahead l.limits (draft_of l.draft) (g.S.Shelf.told l.shelf) l.feed ≡ option_map (read l.limits (draft_of l.initial.draft) (l.initial.feed.lines + 1)) (ahead (g.S.Shelf.told l.initial.shelf) l.initial.feed);
+  all : option_map (read l.limits (draft_of l.draft) (l.feed.lines + 1)) (ahead (g.S.Shelf.told l.shelf) l.feed)
+      ≡ option_map (read l.limits (draft_of l.initial.draft) (l.initial.feed.lines + 1)) (ahead (g.S.Shelf.told l.initial.shelf) l.initial.feed);
+  ended : IfSome (g.S.Shelf.told l.initial.shelf) (MeetsLimit l.initial.feed) → option_map (read l.limits (draft_of l.draft) (l.feed.lines + 1)) (ended_ahead (g.S.Shelf.told l.shelf) l.feed)
+      ≡ option_map (read l.limits (draft_of l.initial.draft) (l.initial.feed.lines + 1)) (ended_ahead (g.S.Shelf.told l.initial.shelf) l.initial.feed);
   tallied : IsTallied l.draft;
   grows : Grows l.limits (draft_of l.initial.draft) (draft_of l.draft);
   slot : l.feed.slot ≡ l.initial.feed.slot;

@@ -3,4 +3,4 @@ use Rattle.std.proofs.Common.{refl}
 use Rattle.graph_text.proofs.graph_draft.GraphDraft.new.Goals as goal
 
 pub returns-clause-tallied : goal.returns-clause-tallied
-returns-clause-tallied c = tallied_none _ c.new.ensures.items c.new-2.ensures refl
+returns-clause-tallied c = tallied_none _ c.new.ensures.items c.new-3.ensures refl

@@ -50,13 +50,8 @@ returns-clause-cause c =
 
 pub returns-clause-taken : goal.returns-clause-taken
 returns-clause-taken c =
-    let new : GraphDraft = record { begun = true; counted = c.args.self.now.counted; tallies = c.add_in.new.tallies; edges = c.args.self.now.edges + 1; weights = c.put.new.self } in
-    edge_taken c.args.self.now new c.args.edge refl refl
-    (record {
-      outs = λ v. c.add_in.ensures.outs v ∙ c.add_out.ensures.outs v ∙ ap (λ (t : VertexTally). one_if (nat_eq c.args.edge.src v) + t.out_degree) (c.in_ok-cover.ensures.same v);
-      ins = λ v. c.add_in.ensures.ins v ∙ ap (λ n. one_if (nat_eq c.args.edge.dst v) + n) (c.add_out.ensures.ins v ∙ ap (λ (t : VertexTally). t.in_degree) (c.in_ok-cover.ensures.same v));
-      attrs = λ v. c.add_in.ensures.attrs v ∙ c.add_out.ensures.attrs v ∙ ap (λ (t : VertexTally). t.attr) (c.in_ok-cover.ensures.same v);
-    })
+    let new : GraphDraft = record { begun = true; counted = c.args.self.now.counted; tallies = c.add_in.new.tallies; attrs = c.args.self.now.attrs; edges = c.args.self.now.edges + 1; weights = c.put.new.self } in
+    edge_taken c.args.self.now new c.args.edge refl refl refl
     (omega (arith, c.in_ok-cover.ensures.len, c.max.ensures, c.add_in.ensures.len, c.add_out.ensures.len, c.add_in.new.tallies.ok.0, c.args.self.now.tallies.ok.0))
     c.in_ok-put.ensures.put
 
@@ -65,6 +60,5 @@ returns-clause-tallied c = edge_tallied c.args.self.now _ c.args.edge c.requires
     (record {
       outs = λ v. c.add_in.ensures.outs v ∙ c.add_out.ensures.outs v ∙ ap (λ (t : VertexTally). one_if (nat_eq c.args.edge.src v) + t.out_degree) (c.in_ok-cover.ensures.same v);
       ins = λ v. c.add_in.ensures.ins v ∙ ap (λ n. one_if (nat_eq c.args.edge.dst v) + n) (c.add_out.ensures.ins v ∙ ap (λ (t : VertexTally). t.in_degree) (c.in_ok-cover.ensures.same v));
-      attrs = λ v. c.add_in.ensures.attrs v ∙ c.add_out.ensures.attrs v ∙ ap (λ (t : VertexTally). t.attr) (c.in_ok-cover.ensures.same v);
     })
     c.in_ok-put.ensures.put refl

@@ -1,10 +1,11 @@
 use Rattle.std.proofs.Common.{◌≡◌, ◌-◌, ◌≤◌, ◌^◌}
-use Rattle.text_lines.specs.Feed.{ahead, Advances}
+use Rattle.text_lines.specs.Feed.{ahead, ended_ahead, Advances}
 use Rattle.text_lines.proofs.line_feed.LineFeed.find.Given as goal
 
 abbrev pub invariant-reads : goal.invariant-reads
 invariant-reads g l = record {
   ahead : ahead (g.S.Shelf.told l.shelf) l.self ≡ ahead (g.S.Shelf.told l.initial.shelf) l.initial.self;
+  ended_ahead : ended_ahead (g.S.Shelf.told l.shelf) l.self ≡ ended_ahead (g.S.Shelf.told l.initial.shelf) l.initial.self;
   slot : l.self.slot ≡ l.initial.self.slot;
   lines : l.self.lines ≡ l.initial.self.lines;
   advances : Advances (g.S.Shelf.told l.initial.shelf) (g.S.Shelf.told l.shelf) l.initial.self.slot (l.self.taken - l.initial.self.taken);
