@@ -1,6 +1,6 @@
 -- An edge that is taken into a draft.
 use Rattle.std.proofs.Common.{◌≡◌, ℕ, ℤ, pos, ◌+◌, max, Bool, true, false, ◌&&◌, List, length, refl, sym, ap, ◌∙◌, arith, Option, Some, None}
-use Rattle.std.specs.Prelude.{nat_lt, nat_eq, is_none, unwrap_or}
+use Rattle.std.specs.Prelude.{nat_lt, nat_eq, is_none, is_some, unwrap_or}
 use Rattle.std.specs.FinMap as finite
 use Rattle.std.proofs.lemmas.List.FromFn.{length-map-range_with_len}
 use Rattle.bolt_base.specs.declared.edge.Edge.{Edge}
@@ -9,12 +9,11 @@ use Rattle.bolt_base.specs.declared.limits.LineCause.{LineCause}
 use Rattle.bolt_base.specs.declared.limits.LineCause.TheVariants.{Vertex, Weight, Present, Degree, Edges}
 use Rattle.bolt_base.specs.Graph.{Weights, edges, outdeg, indeg}
 use Rattle.bolt_base.specs.Edits.{unless, is_between, has_degrees, has_room}
-use Rattle.bolt_base.proofs.EditLemmas.{length_added, outdeg_added, indeg_added}
 use Rattle.graph_text.specs.GraphText.{Draft, bound, drafted, cause, taken_in}
 use Rattle.graph_text.specs.declared.graph_lines.GraphLine.TheVariants.{Edge as EdgeLine}
-use Rattle.graph_text.specs.declared.graph_draft.VertexTally.{VertexTally}
 use Rattle.graph_text.specs.declared.graph_draft.GraphDraft.{GraphDraft}
-use Rattle.graph_text.specs.DraftCode.{tally_at, attr_at, draft_of, edges_alone, one_if, IsTallied}
+use Rattle.graph_text.specs.DraftCode.{attr_at, draft_of, named_in}
+use Rattle.graph_text.specs.EdgeIndex.{edges_alone}
 
 -- why the ends or the weight are bad, and why there is no room for one edge more
 abbrev pub ends_of : Limits → Draft → Edge → Option LineCause
@@ -48,35 +47,46 @@ pub ends_bad : (l : Limits) (d : Draft) (e : Edge) (c : LineCause) → Some c �
 ends_bad l d e c is = stops _ _ Vertex Weight c _ is ∙ sym (cause_parts l d e)
 
 -- they are good, and what is bad else
-pub ends_good : (l : Limits) (d : Draft) (e : Edge) → None ≡ ends_of l d e → cause l d (EdgeLine e) ≡ unless (is_none (finite.get d.weights (e.src, e.dst))) Present (room_of l d.weights e)
+ends_good : (l : Limits) (d : Draft) (e : Edge) → None ≡ ends_of l d e → cause l d (EdgeLine e) ≡ unless (is_none (finite.get d.weights (e.src, e.dst))) Present (room_of l d.weights e)
 ends_good l d e is = cause_parts l d e ∙ passes _ _ Vertex Weight _ is
 
-absent : (o : Option ℤ) → true ≡ is_none o → o ≡ None
-absent None e = refl
-absent (Some x) e = absurd (cc)
+-- the edge is there already, or it isn't
+there : (o : Option ℤ) (rest : Option LineCause) → is_some o ≡ true → Some Present ≡ unless (is_none o) Present rest
+there (Some x) rest h = refl
+there None rest h = absurd (cc)
 
--- a tally with one edge more
-pub record Counts (old new : List VertexTally) (e : Edge) : Type 0 where
-  pub outs : (v : ℕ) → (tally_at new v).out_degree ≡ one_if (nat_eq e.src v) + (tally_at old v).out_degree
-  pub ins : (v : ℕ) → (tally_at new v).in_degree ≡ one_if (nat_eq e.dst v) + (tally_at old v).in_degree
+not_there : (o : Option ℤ) (rest : Option LineCause) → is_some o ≡ false → rest ≡ unless (is_none o) Present rest
+not_there None rest h = refl
+not_there (Some x) rest h = absurd (cc)
 
-pub edge_tallied : (c d : GraphDraft) (e : Edge) → IsTallied c → true ≡ is_none (finite.get c.weights (e.src, e.dst)) → Counts c.tallies.items d.tallies.items e → d.weights ≡ finite.insert c.weights (e.src, e.dst) e.weight → d.edges ≡ c.edges + 1 → IsTallied d
-edge_tallied c d e so_far fresh counts weights more =
-    let none = absent (finite.get c.weights (e.src, e.dst)) fresh in
-    let g = edges_alone c.weights in
-    record {
-      out_degrees = λ v. counts.outs v ∙ ap (λ n. one_if (nat_eq e.src v) + n) (so_far.out_degrees v) ∙ sym (outdeg_added g e none v) ∙ ap (λ (m : Weights). outdeg (edges_alone m) v) (sym weights);
-      in_degrees = λ v. counts.ins v ∙ ap (λ n. one_if (nat_eq e.dst v) + n) (so_far.in_degrees v) ∙ sym (indeg_added g e none v) ∙ ap (λ (m : Weights). indeg (edges_alone m) v) (sym weights);
-      edges = let size : length (edges (edges_alone d.weights)) ≡ 1 + length (edges g) = ap (λ (m : Weights). length (edges (edges_alone m))) weights ∙ length_added g e none in let count = so_far.edges in omega arith;
-    }
+pub is_present : (l : Limits) (d : Draft) (e : Edge) → None ≡ ends_of l d e → is_some (finite.get d.weights (e.src, e.dst)) ≡ true → Some Present ≡ cause l d (EdgeLine e)
+is_present l d e is h = there (finite.get d.weights (e.src, e.dst)) (room_of l d.weights e) h ∙ sym (ends_good l d e is)
 
-pub edge_taken : (c d : GraphDraft) (e : Edge) → d.begun ≡ true → d.counted ≡ c.counted → d.attrs.items ≡ c.attrs.items → length d.tallies.items ≡ max (length c.tallies.items) (max e.src e.dst + 1)
-    → d.weights ≡ finite.insert c.weights (e.src, e.dst) e.weight → draft_of d ≡ taken_in (draft_of c) (EdgeLine e)
+pub is_absent : (l : Limits) (d : Draft) (e : Edge) → None ≡ ends_of l d e → is_some (finite.get d.weights (e.src, e.dst)) ≡ false → room_of l d.weights e ≡ cause l d (EdgeLine e)
+is_absent l d e is h = not_there (finite.get d.weights (e.src, e.dst)) (room_of l d.weights e) h ∙ sym (ends_good l d e is)
+
+some_from_none : (o : Option ℤ) → false ≡ is_none o → is_some o ≡ true
+some_from_none (Some x) e = refl
+some_from_none None e = absurd (cc)
+
+none_from_none : (o : Option ℤ) → true ≡ is_none o → is_some o ≡ false
+none_from_none None e = refl
+none_from_none (Some x) e = absurd (cc)
+
+pub not_fresh : (w : Weights) (e : Edge) (fresh : Bool) → fresh ≡ is_none (finite.get w (e.src, e.dst)) → fresh ≡ false → is_some (finite.get w (e.src, e.dst)) ≡ true
+not_fresh w e fresh is stays = some_from_none _ (sym stays ∙ is)
+
+pub is_fresh : (w : Weights) (e : Edge) (fresh : Bool) → fresh ≡ is_none (finite.get w (e.src, e.dst)) → fresh ≡ true → is_some (finite.get w (e.src, e.dst)) ≡ false
+is_fresh w e fresh is goes = none_from_none _ (sym goes ∙ is)
+
+-- an edge that is taken in
+pub edge_taken : (c : GraphDraft) (e : Edge) (weights : Weights) → weights ≡ finite.insert c.edges (e.src, e.dst) e.weight
+    → draft_of (named_in (record { begun = c.begun; counted = c.counted; named = c.named; attrs = c.attrs; edges = weights }) (max e.src e.dst)) ≡ taken_in (draft_of c) (EdgeLine e)
 unfolding taken_in
-edge_taken c d e begun counted attrs size weights = λ i. record {
-  begun = begun i;
-  counted = counted i;
-  named = size i;
-  attr = λ v. attr_at (attrs i) v;
-  weights = weights i;
+edge_taken c e weights put = λ i. record {
+  begun = true;
+  counted = c.counted;
+  named = max c.named (max e.src e.dst + 1);
+  attr = λ v. attr_at c.attrs.items v;
+  weights = put i;
 }

@@ -1,6 +1,5 @@
 pub mod WeightLemmas
-pub mod RowLemmas
-pub mod TallyLemmas
+pub mod IndexLemmas
 pub mod DraftLemmas
 pub mod SoundLemmas
 pub mod ReadLemmas

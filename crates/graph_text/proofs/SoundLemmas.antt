@@ -18,7 +18,7 @@ use Rattle.bolt_base.proofs.GoodLemmas.{between, good_addition}
 use Rattle.graph_text.specs.GraphText.{Draft, bound, drafted, cause, taken_in, complete}
 use Rattle.graph_text.specs.declared.graph_lines.GraphLine.{GraphLine}
 use Rattle.graph_text.specs.declared.graph_lines.GraphLine.TheVariants.{Empty, Vertices, Attr, Edge as EdgeLine, Unknown}
-use Rattle.graph_text.specs.DraftCode.{edges_alone, one_if}
+use Rattle.graph_text.specs.EdgeIndex.{edges_alone, one_if}
 use Rattle.graph_text.specs.DraftGood.{IsSound}
 
 passed : (b : Bool) (why : LineCause) (rest : Option LineCause) → unless b why rest ≡ None → (b ≡ true) × (rest ≡ None)

@@ -1,10 +1,12 @@
--- A finite map from pairs, as the ordered list of its entries.
+-- A finite map from pairs, kept as the ordered list of its entries.
 use Rattle.std.proofs.Common.{◌≡◌, ℤ, T, ◌&&◌, Bool, true, false, cond, List, [], ◌∷◌, map, refl, sym, ap, ◌∙◌, subst, Some, None}
 use Rattle.std.specs.Ordering.{is_eq, is_lt}
 use Rattle.std.specs.declared.cmp.Ordering.{Ordering}
-use Rattle.std.specs.declared.cmp.Ordering.TheVariants.{Less}
+use Rattle.std.specs.declared.cmp.Ordering.TheVariants.{Less, Equal, Greater}
 use Rattle.std.specs.FinMap as finite
-use Rattle.std.specs.FinMap.Entries.{find, is_sorted, below_all, same_entries}
+use Rattle.std.specs.FinMap.Entries.{put, find, by_order, find-put, is_sorted, below_all, same_entries}
+use Rattle.std.specs.BTreeMap.{insert_entry, is_at}
+use Rattle.std.specs.Map.{lookup}
 use Rattle.std.specs.List.{AllByRecursion}
 use Rattle.std.specs.List.Sorted.{IsStrictlySortedBy}
 use Rattle.bolt_base.specs.Graph.{Pair, Weights, pair_cmp, edge}
@@ -13,6 +15,31 @@ use Rattle.bolt_base.proofs.EdgeMap.{pairs_total, pairs_exact}
 
 abbrev Entries : Type 0
 Entries = List (Pair × ℤ)
+
+-- what a look-up finds
+pub lookup-find : (k : Pair) (es : Entries) → lookup (is_at (pair_cmp k)) es ≡ find pair_cmp k es
+lookup-find k [] = refl
+lookup-find k (e ∷ es) = ap (cond (is_eq (pair_cmp k e.0)) (Some e.1)) (lookup-find k es)
+
+pub get-lookup : (k : Pair) (es : Entries) → finite.get (let m : Weights = finite.from_entries es in m) k ≡ lookup (is_at (pair_cmp k)) es
+get-lookup k es = finite.get-from_entries pairs_total es k ∙ sym (lookup-find k es)
+
+insert-put : (k : Pair) (w : ℤ) (es : Entries) → insert_entry pair_cmp es k w ≡ put pair_cmp k w es
+insert-put k w [] = refl
+insert-put k w (e ∷ es) = elim (pair_cmp k e.0) as (λ o. Rattle.std.specs.Ordering.match_ordering o ((k, w) ∷ e ∷ es) ((e.0, w) ∷ es) (e ∷ insert_entry pair_cmp es k w) ≡ by_order o ((k, w) ∷ e ∷ es) ((e.0, w) ∷ es) (e ∷ put pair_cmp k w es)) [
+  | Less ↦ refl
+  | Equal ↦ refl
+  | Greater ↦ ap (λ (l : Entries). e ∷ l) (insert-put k w es)
+]
+
+-- an entry put in its place is put into the map
+pub from_entries-insert : (k : Pair) (w : ℤ) (es : Entries) → ◌≡◌ {A = Weights} (finite.from_entries (insert_entry pair_cmp es k w)) (finite.insert (finite.from_entries es) k w)
+from_entries-insert k w es = finite.same_map pairs_total pairs_exact _ _ (λ q.
+    finite.get-from_entries pairs_total (insert_entry pair_cmp es k w) q
+    ∙ ap (find pair_cmp q) (insert-put k w es)
+    ∙ find-put pair_cmp pairs_total q k w es
+    ∙ ap (cond (Rattle.std.specs.Ordering.eq_by_cmp pair_cmp q k) (Some w)) (sym (finite.get-from_entries pairs_total es q))
+    ∙ sym (finite.get-insert pairs_total (finite.from_entries es) k w q))
 
 -- the edges of entries
 pub entry-edge : (es : Entries) → map entry (map edge es) ≡ es

@@ -4,7 +4,7 @@ use Rattle.std.specs.List.{All}
 use Rattle.bolt_base.specs.declared.limits.Limits.{Limits}
 use Rattle.bolt_base.specs.Graph.{IsBetween, edges, outdeg, indeg}
 use Rattle.graph_text.specs.GraphText.{Draft, bound}
-use Rattle.graph_text.specs.DraftCode.{edges_alone}
+use Rattle.graph_text.specs.EdgeIndex.{edges_alone}
 
 -- the lines of a draft keep to the limits, and what they name is below the number of vertices
 pub record IsSound (l : Limits) (d : Draft) : Type 0 where

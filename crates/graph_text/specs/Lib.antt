@@ -2,7 +2,7 @@ pub mod GraphText
 pub mod StreamText
 pub mod Outcome
 pub mod Printed
-pub mod Rows
+pub mod EdgeIndex
 pub mod DraftCode
 pub mod Refusals
 pub mod DraftGood

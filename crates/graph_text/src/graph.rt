@@ -5,8 +5,8 @@ ghost use Rattle.bolt_io.specs.Told.{left};
 ghost use Rattle.text_lines.specs.Lines.{seen_ended_lines};
 ghost use Rattle.text_lines.specs.Feed.{Advances, TookBytes, IsAtEnd, MeetsLimit, ahead, readable, rest};
 ghost use Rattle.graph_text.specs.GraphText.{graph_of, read};
-ghost use Rattle.graph_text.specs.DraftCode.{draft_of, IsTallied};
 ghost use Rattle.graph_text.specs.DraftGood.{IsSound, Grows};
+ghost use Rattle.graph_text.specs.DraftCode.{draft_of};
 ghost use Rattle.graph_text.specs.Refusals.{IfLine, IfTurns, BlamesShelf, IsCutShort};
 
 use crate::graph_draft::GraphDraft;
@@ -63,7 +63,6 @@ fn read_lines<S: Shelf>(
     limits: &Limits,
 ) -> Result<(), GraphRefusal>
     requires slot { feed.old.slot < S.opened shelf.old }
-    requires tallied { IsTallied draft.old }
     ensures read { OnOk result (IfSome (ahead (S.told shelf.old) feed.old) (λ lines. read limits.now (draft_of draft.old) (feed.old.lines + 1) lines ≡ Ok (draft_of draft.new))) }
     ensures bad { IfErr result (IfLine (λ number cause. IfSome (ahead (S.told shelf.old) feed.old) (λ lines. read limits.now (draft_of draft.old) (feed.old.lines + 1) lines ≡ Err (record { line = number; cause = cause })))) }
     ensures made { OnOk result (Grows limits.now (draft_of draft.old) (draft_of draft.new)) }

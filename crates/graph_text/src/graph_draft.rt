@@ -1,63 +1,28 @@
 // A graph that is being read.
-ghost use Rattle.std.specs.Prelude.{◌≡◌, ◌&&◌, ◌==◌, nat_lt, nat_eq, if◌then◌else◌, Some, None, ℕ, ◌+◌, ◌<◌, ◌^◌, max, IfOk, OnOk, IfNone, vec_len, map, pos};
+ghost use Rattle.std.specs.Prelude.{◌≡◌, ◌&&◌, ◌==◌, nat_lt, if◌then◌else◌, Some, None, ℕ, ◌+◌, ◌<◌, ◌^◌, length, IfOk, OnOk, IfNone, vec_len, map, pos};
 ghost use Rattle.std.specs.List.{range_with_len};
 ghost use Rattle.std.specs.Option.{unwrap_or};
-ghost use Rattle.graph_text.specs.GraphText.{cause as cause_of, taken_in, bound as bound_of, blank, complete};
+ghost use Rattle.bolt_base.specs.Graph.{edges};
 ghost use Rattle.bolt_base.specs.Edits.{is_between as is_between_of, unless, has_degrees, has_room};
-ghost use Rattle.graph_text.specs.DraftCode.{tally_at, attr_at, draft_of, edges_alone, one_if, IsTallied};
+ghost use Rattle.graph_text.specs.GraphText.{cause as cause_of, taken_in, bound as bound_of, blank, complete};
+ghost use Rattle.graph_text.specs.EdgeIndex.{edges_alone};
+ghost use Rattle.graph_text.specs.DraftCode.{attr_at, draft_of, named_in};
 ghost use Rattle.graph_text.specs.declared.graph_lines.GraphLine.TheVariants.{Vertices, Attr, Edge as EdgeLine};
 
+use crate::edge_set::EdgeSet;
 use crate::graph_lines::GraphLine;
-use crate::weight_map::WeightMap;
 use bolt_base::{AttrList, Edge, GraphData, Limits, LineCause, Memory};
 use std::alloc::Global;
 
-/// The degrees of a vertex.
-#[derive(Clone, Copy, Debug)]
-pub struct VertexTally {
-    pub out_degree: u32,
-    pub in_degree: u32,
-}
-
-/// The lines so far of a graph text: whether one of them isn't empty, the number of vertices where it was told, a tally of
-/// each vertex up to the greatest one that was named, the attributes up to the greatest vertex that was given one, and the
-/// edges with their number.
+/// The lines so far of a graph text: whether one of them isn't empty, the number of vertices where it was told, 1 more than the
+/// greatest vertex that was named, the attributes up to the greatest vertex that was given one, and the edges.
 #[derive(Drop)]
 pub struct GraphDraft {
     pub begun: bool,
     pub counted: Option<u32>,
-    pub tallies: Vec<VertexTally>,
+    pub named: usize,
     pub attrs: Vec<Option<i64>>,
-    pub edges: u32,
-    pub weights: WeightMap,
-}
-
-const NO_TALLY: VertexTally = VertexTally {
-    out_degree: 0,
-    in_degree: 0,
-};
-
-/// Has a tally for each vertex up to this one.
-fn cover(tallies: &mut Vec<VertexTally>, vertex: u32) -> Result<(), Memory>
-    ensures len { OnOk result (vec_len tallies.new ≡ max (vec_len tallies.old) (vertex + 1)) }
-    ensures same { OnOk result ((v : ℕ) → tally_at tallies.new.items v ≡ tally_at tallies.old.items v) }
-{
-    let count = vertex as usize + 1;
-    if tallies.len() >= count {
-        return Ok(());
-    }
-    tallies.resize(count, NO_TALLY)?;
-    Ok(())
-}
-
-/// The tally of a vertex.
-fn tally(tallies: &[VertexTally], vertex: usize) -> VertexTally
-    ensures { result ≡ tally_at tallies.now vertex }
-{
-    match tallies.get(vertex) {
-        Some(tally) => *tally,
-        None => NO_TALLY,
-    }
+    pub edges: EdgeSet,
 }
 
 /// Has a place for the attribute of each vertex up to this one.
@@ -94,36 +59,6 @@ fn attrs_of(alloc: Global, given: &[Option<i64>], count: usize) -> Result<AttrLi
     Ok(attrs)
 }
 
-/// Counts an edge out of a vertex.
-fn add_out(tallies: &mut Vec<VertexTally>, vertex: u32)
-    requires there { vertex < vec_len tallies.old }
-    requires fits { (tally_at tallies.old.items vertex).out_degree + 1 < 2 ^ 32 }
-    ensures len { vec_len tallies.new ≡ vec_len tallies.old }
-    ensures outs { (v : ℕ) → (tally_at tallies.new.items v).out_degree ≡ one_if (nat_eq vertex v) + (tally_at tallies.old.items v).out_degree }
-    ensures ins { (v : ℕ) → (tally_at tallies.new.items v).in_degree ≡ (tally_at tallies.old.items v).in_degree }
-{
-    let tally = tallies[vertex as usize];
-    tallies[vertex as usize] = VertexTally {
-        out_degree: tally.out_degree + 1,
-        in_degree: tally.in_degree,
-    };
-}
-
-/// Counts an edge into a vertex.
-fn add_in(tallies: &mut Vec<VertexTally>, vertex: u32)
-    requires there { vertex < vec_len tallies.old }
-    requires fits { (tally_at tallies.old.items vertex).in_degree + 1 < 2 ^ 32 }
-    ensures len { vec_len tallies.new ≡ vec_len tallies.old }
-    ensures outs { (v : ℕ) → (tally_at tallies.new.items v).out_degree ≡ (tally_at tallies.old.items v).out_degree }
-    ensures ins { (v : ℕ) → (tally_at tallies.new.items v).in_degree ≡ one_if (nat_eq vertex v) + (tally_at tallies.old.items v).in_degree }
-{
-    let tally = tallies[vertex as usize];
-    tallies[vertex as usize] = VertexTally {
-        out_degree: tally.out_degree,
-        in_degree: tally.in_degree + 1,
-    };
-}
-
 /// Gives a vertex an attribute.
 fn set_attr(attrs: &mut Vec<Option<i64>>, vertex: u32, attr: i64)
     requires { vertex < vec_len attrs.old }
@@ -141,16 +76,14 @@ fn is_between(lo: i64, hi: i64, x: i64) -> bool
 impl GraphDraft {
     /// No line.
     pub fn new(alloc: Global) -> GraphDraft
-        ensures draft { draft_of result ≡ blank }
-        ensures tallied { IsTallied result }
+        ensures { draft_of result ≡ blank }
     {
         GraphDraft {
             begun: false,
             counted: None,
-            tallies: Vec::new(alloc),
+            named: 0,
             attrs: Vec::new(alloc),
-            edges: 0,
-            weights: WeightMap::new(alloc),
+            edges: EdgeSet::new(alloc),
         }
     }
 
@@ -161,13 +94,19 @@ impl GraphDraft {
         self.counted.unwrap_or(limits.vertices)
     }
 
+    // Notes that a line names vertices up to this one.
+    fn name(&mut self, vertex: u32)
+        ensures { self.new ≡ named_in self.old vertex }
+    {
+        self.named = self.named.max(vertex as usize + 1);
+        self.begun = true;
+    }
+
     // Takes in the number of vertices, unless the line is bad.
     #[tactic(auto, unfolding(crate::specs::GraphText::cause, crate::specs::GraphText::taken_in))]
     fn take_vertices(&mut self, limits: &Limits, count: u32) -> Option<LineCause>
-        requires tallied { IsTallied self.old }
         ensures cause { result ≡ cause_of limits.now (draft_of self.old) (Vertices count) }
         ensures taken { IfNone result (draft_of self.new ≡ taken_in (draft_of self.old) (Vertices count)) }
-        ensures tallied { IsTallied self.new }
     {
         if self.begun {
             return Some(LineCause::Syntax);
@@ -188,10 +127,8 @@ impl GraphDraft {
         vertex: u32,
         attr: i64,
     ) -> Result<Option<LineCause>, Memory>
-        requires tallied { IsTallied self.old }
         ensures cause { IfOk result (λ r. r ≡ cause_of limits.now (draft_of self.old) (Attr vertex attr)) }
         ensures taken { IfOk result (λ r. IfNone r (draft_of self.new ≡ taken_in (draft_of self.old) (Attr vertex attr))) }
-        ensures tallied { IfOk result (λ r. IfNone r (IsTallied self.new)) }
     {
         if vertex >= self.bound(limits) {
             return Ok(Some(LineCause::Vertex));
@@ -202,10 +139,9 @@ impl GraphDraft {
         if attr_of(&self.attrs, vertex as usize).is_some() {
             return Ok(Some(LineCause::Present));
         }
-        cover(&mut self.tallies, vertex)?;
         cover_attrs(&mut self.attrs, vertex)?;
         set_attr(&mut self.attrs, vertex, attr);
-        self.begun = true;
+        self.name(vertex);
         Ok(None)
     }
 
@@ -226,19 +162,16 @@ impl GraphDraft {
 
     // The cause for which one more edge is too many, or none.
     fn room_cause(&self, limits: &Limits, edge: Edge) -> Option<LineCause>
-        requires { IsTallied self.now }
-        ensures out_fits { IfNone result ((tally_at self.now.tallies.items edge.src).out_degree + 1 < 2 ^ 32) }
-        ensures in_fits { IfNone result ((tally_at self.now.tallies.items edge.dst).in_degree + 1 < 2 ^ 32) }
-        ensures edges_fit { IfNone result (self.now.edges + 1 < 2 ^ 32) }
-        ensures cause { result ≡ unless (has_degrees limits.now (edges_alone self.now.weights) edge.src edge.dst) LineCause.Degree
-            (unless (has_room limits.now (edges_alone self.now.weights)) LineCause.Edges None) }
+        ensures fits { IfNone result (length (edges (edges_alone self.now.edges)) + 1 < 2 ^ 32) }
+        ensures cause { result ≡ unless (has_degrees limits.now (edges_alone self.now.edges) edge.src edge.dst) LineCause.Degree
+            (unless (has_room limits.now (edges_alone self.now.edges)) LineCause.Edges None) }
     {
-        let out_degree = tally(&self.tallies, edge.src as usize).out_degree;
-        let in_degree = tally(&self.tallies, edge.dst as usize).in_degree;
+        let out_degree = self.edges.out_degree(edge.src);
+        let in_degree = self.edges.in_degree(edge.dst);
         if !(out_degree < limits.degree && in_degree < limits.degree) {
             return Some(LineCause::Degree);
         }
-        if self.edges >= limits.edges {
+        if self.edges.len() >= limits.edges as usize {
             return Some(LineCause::Edges);
         }
         None
@@ -246,26 +179,20 @@ impl GraphDraft {
 
     // Takes in an edge, unless it is bad.
     fn take_edge(&mut self, limits: &Limits, edge: Edge) -> Result<Option<LineCause>, Memory>
-        requires tallied { IsTallied self.old }
         ensures cause { IfOk result (λ r. r ≡ cause_of limits.now (draft_of self.old) (EdgeLine edge)) }
         ensures taken { IfOk result (λ r. IfNone r (draft_of self.new ≡ taken_in (draft_of self.old) (EdgeLine edge))) }
-        ensures tallied { IfOk result (λ r. IfNone r (IsTallied self.new)) }
     {
         if let Some(cause) = self.ends_cause(limits, edge) {
             return Ok(Some(cause));
         }
-        let full = self.room_cause(limits, edge);
-        if !self.weights.put(edge)? {
+        if let Some(cause) = self.room_cause(limits, edge) {
+            let present = self.edges.contains(edge.src, edge.dst);
+            return Ok(Some(if present { LineCause::Present } else { cause }));
+        }
+        if !self.edges.put(edge)? {
             return Ok(Some(LineCause::Present));
         }
-        if let Some(cause) = full {
-            return Ok(Some(cause));
-        }
-        cover(&mut self.tallies, edge.src.max(edge.dst))?;
-        add_out(&mut self.tallies, edge.src);
-        add_in(&mut self.tallies, edge.dst);
-        self.edges += 1;
-        self.begun = true;
+        self.name(edge.src.max(edge.dst));
         Ok(None)
     }
 
@@ -276,10 +203,8 @@ impl GraphDraft {
         limits: &Limits,
         line: GraphLine,
     ) -> Result<Option<LineCause>, Memory>
-        requires tallied { IsTallied self.old }
         ensures cause { IfOk result (λ r. r ≡ cause_of limits.now (draft_of self.old) line) }
         ensures taken { IfOk result (λ r. IfNone r (draft_of self.new ≡ taken_in (draft_of self.old) line)) }
-        ensures tallied { IfOk result (λ r. IfNone r (IsTallied self.new)) }
     {
         match line {
             GraphLine::Empty => Ok(None),
@@ -302,10 +227,9 @@ impl GraphDraft {
     {
         let count = match self.counted {
             Some(count) => count as usize,
-            None => self.tallies.len(),
+            None => self.named,
         };
         let attrs = attrs_of(alloc, &self.attrs, count)?;
-        let edges = self.weights.into_edges(alloc)?;
-        Ok(GraphData::new(attrs, edges))
+        Ok(GraphData::new(attrs, self.edges.into_edges()))
     }
 }

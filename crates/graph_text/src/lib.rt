@@ -4,11 +4,13 @@
 mod bad_line;
 mod batch_reader;
 mod batch_text;
+mod edge_set;
 mod graph;
 mod graph_draft;
 mod graph_lines;
 mod printing;
 mod stream_lines;
+mod successors;
 mod weight_map;
 
 pub use bad_line::BadLine;

@@ -17,7 +17,7 @@ pub returns-clause-good : goal.returns-clause-good
 returns-clause-good g c = λ inside.
     let l = c.args.limits.now in
     let d = draft_of c.read_lines.new.draft in
-    let none : IsSound l (draft_of c.new-draft.result) = subst (IsSound l) (sym c.new-draft.ensures.draft) (sound_none l _ refl refl (λ v. refl) refl) in
+    let none : IsSound l (draft_of c.new-draft.result) = subst (IsSound l) (sym c.new-draft.ensures) (sound_none l _ refl refl (λ v. refl) refl) in
     let sound : IsSound l d = c.in_ok-read_lines.ensures.made none in
     subst (IsGood l) (sym c.in_ok-graph.ensures) (good_complete l d inside sound)
 
@@ -38,22 +38,22 @@ returns-clause-short g c =
 
 pub returns-clause-graph : goal.returns-clause-graph
 returns-clause-graph g c =
-    graph_read c.args.limits.now (g.S.Shelf.told c.args.shelf.now) c.args.slot c.new-feed.result c.new-feed.ensures (draft_of c.new-draft.result) c.new-draft.ensures.draft (draft_of c.read_lines.new.draft) _ c.in_ok-graph.ensures c.in_ok-read_lines.ensures.read
+    graph_read c.args.limits.now (g.S.Shelf.told c.args.shelf.now) c.args.slot c.new-feed.result c.new-feed.ensures (draft_of c.new-draft.result) c.new-draft.ensures (draft_of c.read_lines.new.draft) _ c.in_ok-graph.ensures c.in_ok-read_lines.ensures.read
 
 pub returns-in_err-read_lines-clause-line : goal.returns-in_err-read_lines-clause-line
 returns-in_err-read_lines-clause-line g c =
     let h = line_then c.in_err-read_lines.field-0.0 _ (λ number cause. IfSome (g.S.Shelf.told c.args.shelf.now) (λ t. graph_of c.args.limits.now (readable t c.args.slot) ≡ Err (record { line = number; cause = cause })))
-    (λ number cause. graph_bad c.args.limits.now (g.S.Shelf.told c.args.shelf.now) c.args.slot c.new-feed.result c.new-feed.ensures (draft_of c.new-draft.result) c.new-draft.ensures.draft (record { line = number; cause = cause })) c.in_err-read_lines.ensures.bad in
+    (λ number cause. graph_bad c.args.limits.now (g.S.Shelf.told c.args.shelf.now) c.args.slot c.new-feed.result c.new-feed.ensures (draft_of c.new-draft.result) c.new-draft.ensures (record { line = number; cause = cause })) c.in_err-read_lines.ensures.bad in
     search (rules, h)
 
 pub returns-in_err-read_lines-clause-cut_short : goal.returns-in_err-read_lines-clause-cut_short
 returns-in_err-read_lines-clause-cut_short g c =
     let h = turns_then c.in_err-read_lines.field-0.0 _ (λ _. IfSome (g.S.Shelf.told c.args.shelf.now) (IsCutShort c.args.limits.now c.args.slot))
-    (λ _. graph_cut c.args.limits.now (g.S.Shelf.told c.args.shelf.now) c.args.slot c.new-feed.result c.new-feed.ensures (draft_of c.new-draft.result) c.new-draft.ensures.draft) c.in_err-read_lines.ensures.cut_short in
+    (λ _. graph_cut c.args.limits.now (g.S.Shelf.told c.args.shelf.now) c.args.slot c.new-feed.result c.new-feed.ensures (draft_of c.new-draft.result) c.new-draft.ensures) c.in_err-read_lines.ensures.cut_short in
     search (rules, h)
 
 pub returns-in_err-read_lines-clause-early : goal.returns-in_err-read_lines-clause-early
 returns-in_err-read_lines-clause-early g c =
     let h = line_then c.in_err-read_lines.field-0.0 _ (λ _ _. IfSome (g.S.Shelf.told c.args.shelf.now) (λ t. ¬ IsCutShort c.args.limits.now c.args.slot t))
-    (λ number cause. graph_not_cut c.args.limits.now (g.S.Shelf.told c.args.shelf.now) c.args.slot c.new-feed.result c.new-feed.ensures (draft_of c.new-draft.result) c.new-draft.ensures.draft (record { line = number; cause = cause })) c.in_err-read_lines.ensures.early in
+    (λ number cause. graph_not_cut c.args.limits.now (g.S.Shelf.told c.args.shelf.now) c.args.slot c.new-feed.result c.new-feed.ensures (draft_of c.new-draft.result) c.new-draft.ensures (record { line = number; cause = cause })) c.in_err-read_lines.ensures.early in
     search (rules, h)

@@ -7,7 +7,7 @@ use Rattle.text_lines.specs.Feed.{Feed, ahead, rest, ended_ahead, Advances, Meet
 use Rattle.text_lines.specs.Lines.{seen, seen_ended_lines}
 use Rattle.text_lines.proofs.FeedLemmas.{Advances-none, Advances-on, ahead_front, ended_ahead_front, ended_ahead_none, limit_later, limit_before}
 use Rattle.graph_text.specs.GraphText.{graph_line, cause, taken_in, read}
-use Rattle.graph_text.specs.DraftCode.{draft_of, IsTallied}
+use Rattle.graph_text.specs.DraftCode.{draft_of}
 use Rattle.graph_text.specs.DraftGood.{IsSound}
 use Rattle.graph_text.proofs.SoundLemmas.{sound_line}
 use Rattle.graph_text.proofs.ReadLemmas.{Lines, is_read, if_turns, read_end, read_good}
@@ -17,7 +17,6 @@ pub lines-init : goal.lines-init
 lines-init g c = record {
   all = refl;
   ended = λ limit. refl;
-  tallied = c.requires.tallied;
   grows = λ h. h;
   slot = refl;
   advances = Advances-none _ _ _ (omega arith);
@@ -73,7 +72,6 @@ lines-preserved g c =
     let line_is : c.graph_line-line.result ≡ graph_line line = c.graph_line-line.ensures ∙ ap graph_line c.text.ensures in
     let good : cause l d (graph_line line) ≡ None = ap (cause l d) (sym line_is) ∙ sym c.in_ok-cause.ensures.cause ∙ c.in_default-2.is in
     let taken : draft_of c.take_line.new.self ≡ taken_in d (graph_line line) = subst (λ (o : Option LineCause). IfNone o (draft_of c.take_line.new.self ≡ taken_in d c.graph_line-line.result)) c.in_default-2.is c.in_ok-cause.ensures.taken ∙ ap (taken_in d) line_is in
-    let tallied = subst (λ (o : Option LineCause). IfNone o (IsTallied c.take_line.new.self)) c.in_default-2.is c.in_ok-cause.ensures.tallied in
     let now : Option Lines → Option Lines → Type 0 = λ a b. option_map (read l d (f.lines + 1)) a ≡ option_map (read l (draft_of c.args.draft.now) (c.args.feed.now.lines + 1)) b in
     let so_far : now (ahead told f) (ahead start c.args.feed.now) =
     ap (option_map (read l d (f.lines + 1))) c.in_ok-found.ensures.ahead ∙ ap (λ n. option_map (read l d (n + 1)) (ahead (g.S.Shelf.told c.lines.shelf) c.lines.feed)) c.in_ok-found.ensures.lines ∙ c.lines.invariant.all in
@@ -94,7 +92,6 @@ lines-preserved g c =
           ap (option_map (read l d (f.lines + 1))) c.in_ok-found.ensures.ended_ahead ∙ ap (λ n. option_map (read l d (n + 1)) (ended_ahead (g.S.Shelf.told c.lines.shelf) c.lines.feed)) c.in_ok-found.ensures.lines ∙ c.lines.invariant.ended limit in
           ap (λ (x : Feed). option_map (read l (draft_of c.take_line.new.self) (x.lines + 1)) (ended_ahead told x)) c.skip.ensures
           ∙ read_good l d (f.lines + 1) (read l (draft_of c.args.draft.now) (c.args.feed.now.lines + 1)) _ _ ended_so_far line _ (ended_ahead_front told f found.len found.whole front here) good (draft_of c.take_line.new.self) taken;
-      tallied = tallied;
       grows = λ h. grown (c.lines.invariant.grows h);
       slot = ap (λ (x : Feed). x.slot) c.skip.ensures ∙ slot;
       advances = subst (λ (n : ℕ). Advances start told c.args.feed.now.slot (n - c.args.feed.now.taken)) (sym skipped) advances;

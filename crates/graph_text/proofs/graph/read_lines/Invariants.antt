@@ -3,7 +3,7 @@ use Rattle.std.specs.Prelude.{IfSome}
 use Rattle.std.specs.Option.{option_map}
 use Rattle.text_lines.specs.Feed.{ahead, ended_ahead, Advances, MeetsLimit}
 use Rattle.graph_text.specs.GraphText.{read}
-use Rattle.graph_text.specs.DraftCode.{draft_of, IsTallied}
+use Rattle.graph_text.specs.DraftCode.{draft_of}
 use Rattle.graph_text.specs.DraftGood.{Grows}
 use Rattle.graph_text.proofs.graph.read_lines.Given as goal
 
@@ -13,7 +13,6 @@ invariant-lines g l = record {
       ≡ option_map (read l.limits (draft_of l.initial.draft) (l.initial.feed.lines + 1)) (ahead (g.S.Shelf.told l.initial.shelf) l.initial.feed);
   ended : IfSome (g.S.Shelf.told l.initial.shelf) (MeetsLimit l.initial.feed) → option_map (read l.limits (draft_of l.draft) (l.feed.lines + 1)) (ended_ahead (g.S.Shelf.told l.shelf) l.feed)
       ≡ option_map (read l.limits (draft_of l.initial.draft) (l.initial.feed.lines + 1)) (ended_ahead (g.S.Shelf.told l.initial.shelf) l.initial.feed);
-  tallied : IsTallied l.draft;
   grows : Grows l.limits (draft_of l.initial.draft) (draft_of l.draft);
   slot : l.feed.slot ≡ l.initial.feed.slot;
   advances : Advances (g.S.Shelf.told l.initial.shelf) (g.S.Shelf.told l.shelf) l.initial.feed.slot (l.feed.taken - l.initial.feed.taken);
