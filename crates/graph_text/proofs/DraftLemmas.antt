@@ -1,13 +1,13 @@
 -- An edge that is taken into a draft.
-use Rattle.std.proofs.Common.{◌≡◌, ℕ, ℤ, pos, ◌+◌, max, Bool, true, false, ◌&&◌, List, length, refl, sym, ap, ◌∙◌, arith, Option, Some, None}
-use Rattle.std.specs.Prelude.{nat_lt, nat_eq, is_none, is_some, unwrap_or}
+use Rattle.std.proofs.Common.{◌≡◌, ℕ, ℤ, pos, ◌+◌, max, Bool, true, false, ◌&&◌, length, refl, sym, ap, ◌∙◌, Option, Some, None}
+use Rattle.std.specs.Prelude.{nat_lt, is_none, is_some, unwrap_or}
 use Rattle.std.specs.FinMap as finite
 use Rattle.std.proofs.lemmas.List.FromFn.{length-map-range_with_len}
 use Rattle.bolt_base.specs.declared.edge.Edge.{Edge}
 use Rattle.bolt_base.specs.declared.limits.Limits.{Limits}
 use Rattle.bolt_base.specs.declared.limits.LineCause.{LineCause}
 use Rattle.bolt_base.specs.declared.limits.LineCause.TheVariants.{Vertex, Weight, Present, Degree, Edges}
-use Rattle.bolt_base.specs.Graph.{Weights, edges, outdeg, indeg}
+use Rattle.bolt_base.specs.Graph.{Weights}
 use Rattle.bolt_base.specs.Edits.{unless, is_between, has_degrees, has_room}
 use Rattle.graph_text.specs.GraphText.{Draft, bound, drafted, cause, taken_in}
 use Rattle.graph_text.specs.declared.graph_lines.GraphLine.TheVariants.{Edge as EdgeLine}

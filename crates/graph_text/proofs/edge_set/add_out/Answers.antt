@@ -1,8 +1,8 @@
-use Rattle.std.proofs.Common.{◌≡◌, ◌+◌, ◌<◌, ◌||◌, ◌∙◌, ℕ, List, false, length, ap, sym, arith}
+use Rattle.std.proofs.Common.{◌+◌, ◌<◌, ◌||◌, ◌∙◌, false, length, ap, arith}
 use Rattle.std.specs.Prelude.{nat_eq}
 use Rattle.std.proofs.lemmas.Result.{err_from_is_err_and}
 use Rattle.graph_text.specs.declared.successors.Successors.{Successors}
-use Rattle.graph_text.specs.EdgeIndex.{has, has_at, count_at}
+use Rattle.graph_text.specs.EdgeIndex.{has}
 use Rattle.graph_text.proofs.IndexLemmas.{told_read, told_same, has_more, count_more}
 use Rattle.graph_text.proofs.edge_set.add_out.Goals as goal
 

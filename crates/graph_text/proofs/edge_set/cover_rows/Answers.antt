@@ -1,4 +1,4 @@
-use Rattle.std.proofs.Common.{◌∙◌, ℕ, List, false, ap}
+use Rattle.std.proofs.Common.{◌∙◌, List, false, ap}
 use Rattle.graph_text.specs.declared.successors.Successors.{Successors}
 use Rattle.graph_text.specs.EdgeIndex.{has, has_at, count_at}
 use Rattle.graph_text.proofs.IndexLemmas.{told_more}

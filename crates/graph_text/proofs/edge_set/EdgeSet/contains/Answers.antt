@@ -1,4 +1,4 @@
-use Rattle.std.proofs.Common.{◌≡◌, ◌≤◌, ◌<◌, ◌∙◌, List, ℕ, false, length, ap, sym, subst}
+use Rattle.std.proofs.Common.{◌≤◌, ◌<◌, ◌∙◌, List, false, length, ap, sym, subst}
 use Rattle.std.proofs.lemmas.Bool.{ltb-true, ltb-false}
 use Rattle.graph_text.specs.declared.successors.Successors.{Successors}
 use Rattle.graph_text.specs.EdgeIndex.{has, has_at}

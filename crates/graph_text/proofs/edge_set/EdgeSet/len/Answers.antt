@@ -1,4 +1,4 @@
-use Rattle.std.proofs.Common.{◌∙◌, arith}
+use Rattle.std.proofs.Common.{arith}
 use Rattle.graph_text.proofs.IndexLemmas.{all_counted}
 use Rattle.graph_text.proofs.edge_set.EdgeSet.len.Goals as goal
 

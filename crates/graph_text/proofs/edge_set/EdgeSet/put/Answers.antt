@@ -2,7 +2,7 @@ use Rattle.std.proofs.Common.{◌≡◌, ◌+◌, ◌++◌, ◌∷◌, [], ◌&&
 use Rattle.std.specs.Prelude.{is_some, nat_eq}
 use Rattle.std.specs.FinMap as finite
 use Rattle.bolt_base.specs.declared.edge.Edge.{Edge}
-use Rattle.graph_text.specs.EdgeIndex.{weights_of, has_at, one_if, IsIndexed}
+use Rattle.graph_text.specs.EdgeIndex.{weights_of, one_if, IsIndexed}
 use Rattle.graph_text.proofs.IndexLemmas.{out_fits, in_fits, indexed_more, not_found, weights_more}
 use Rattle.graph_text.proofs.edge_set.EdgeSet.put.Goals as goal
 
