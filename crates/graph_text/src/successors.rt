@@ -14,7 +14,7 @@ const NEAR: usize = 15;
 #[derive(Drop)]
 pub struct Successors {
     pub count: u32,
-    pub near: [u32; 15],
+    pub near: [u32; NEAR],
     pub far: BTreeSet<u32>,
 }
 
@@ -26,7 +26,7 @@ impl Successors {
     {
         Successors {
             count: 0,
-            near: [0; 15],
+            near: [0; NEAR],
             far: BTreeSet::new(alloc),
         }
     }
