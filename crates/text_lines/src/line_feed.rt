@@ -1,10 +1,10 @@
 // A feed of lines over a slot of a shelf.
-ghost use Rattle.std.specs.Prelude.{◌≡◌, ℕ, ◌+◌, ◌-◌, ◌<◌, ◌≤◌, ◌^◌, [], ◌∷◌, ◌++◌, List, length, take, drop, slice_range, IfOk, IfErr, OnOk, OnErr, IfSome, IfNone, MatchOption, vec_len};
+ghost use Rattle.std.specs.Prelude.{◌≡◌, ℕ, ◌+◌, ◌-◌, ◌<◌, ◌≤◌, ◌^◌, [], ◌∷◌, ◌++◌, List, Option, Some, None, length, take, drop, slice_range, IfOk, IfErr, OnOk, OnErr, IsOk, IfSome, IfNone, MatchOption, vec_len};
 ghost use Rattle.std.specs.List.{prefix_len};
 ghost use Rattle.std.specs.Option.{option_map};
 ghost use Rattle.bolt_io.specs.Told.{left};
 ghost use Rattle.text_lines.specs.Lines.{is_no_lf, without_cr, seen};
-ghost use Rattle.text_lines.specs.Feed.{Feed, ahead, ended_ahead, IsStuck, IsAtEnd, NeedsMore, Advances, IsFront, EndsLine, answered, ReadsOn};
+ghost use Rattle.text_lines.specs.Feed.{Feed, ahead, ended_ahead, IsStuck, IsAtEnd, MeetsLimit, NeedsMore, Advances, IsFront, EndsLine, answered, ReadsOn};
 ghost use Rattle.text_lines.specs.Answers.{told_line, number_of, BlamesShelf, IfTurns};
 
 use crate::feed::{FeedError, Line};
@@ -227,6 +227,10 @@ impl LineFeed {
         ensures lines { self.new.lines ≡ self.old.lines }
         ensures most_lines { self.new.lines ≤ 2 ^ 40 }
 
+        // A line that ends in what was taken is answered without a read.
+        ensures at_hand { ¬ NeedsMore self.old → IsOk result }
+        ensures unread { ¬ NeedsMore self.old → shelf.new ≡ shelf.old }
+
         // How many bytes were taken.
         ensures advances { Advances (S.told shelf.old) (S.told shelf.new) self.old.slot (self.new.taken - self.old.taken) }
         ensures later { self.old.taken ≤ self.new.taken }
@@ -278,12 +282,17 @@ impl LineFeed {
     pub fn next<S: Shelf>(&mut self, shelf: &mut S) -> Result<Option<Line>, FeedError>
         requires slot { self.old.slot < S.opened shelf.old }
         ensures line { IfOk result (λ r. IfSome r (λ line. ahead (S.told shelf.old) self.old ≡ option_map (λ rest. told_line line ∷ rest) (ahead (S.told shelf.new) self.new))) }
+        ensures ended_line { IfOk result (λ r. IfSome r (λ line. IfSome (S.told shelf.old) (MeetsLimit self.old) → ended_ahead (S.told shelf.old) self.old ≡ option_map (λ rest. told_line line ∷ rest) (ended_ahead (S.told shelf.new) self.new))) }
         ensures number { IfOk result (λ r. IfSome r (λ line. number_of line ≡ self.new.lines)) }
         ensures one_more { IfOk result (λ r. MatchOption r (self.new.lines ≡ self.old.lines) (λ _. self.new.lines ≡ self.old.lines + 1)) }
         ensures most_lines { self.new.lines ≤ 2 ^ 40 }
         ensures end { IfOk result (λ r. IfNone r (IsAtEnd (S.told shelf.new) self.new)) }
         ensures none { IfOk result (λ r. IfNone r (ahead (S.told shelf.old) self.old ≡ option_map (λ _. []) (S.told shelf.old))) }
         ensures slot { self.new.slot ≡ self.old.slot }
+
+        // A line that ends in what was taken is answered without a read.
+        ensures unread { ¬ NeedsMore self.old → shelf.new ≡ shelf.old }
+        ensures long_at_hand { (rest : List (Option (List ℕ))) → ¬ NeedsMore self.old → ahead (S.told shelf.old) self.old ≡ Some (None ∷ rest) → IsOk result }
 
         // How many bytes were taken.
         ensures advances { Advances (S.told shelf.old) (S.told shelf.new) self.old.slot (self.new.taken - self.old.taken) }

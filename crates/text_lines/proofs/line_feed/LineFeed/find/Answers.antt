@@ -1,9 +1,9 @@
-use Rattle.std.proofs.Common.{◌≡◌, ◌≢◌, ◌<◌, ◌^◌, ◌∙◌, ap, sym, subst, arith, refl, [], ℕ, length, Option, Some, None}
+use Rattle.std.proofs.Common.{rules, ◌≡◌, ◌≢◌, ◌<◌, ◌^◌, ◌∙◌, ap, sym, subst, arith, refl, [], ℕ, length, Option, Some, None}
 use Rattle.std.specs.Prelude.{MatchOption, IfSome}
 use Rattle.bolt_io.specs.Told.{Told}
 use Rattle.bolt_io.proofs.TakenLemmas.{slot_told}
 use Rattle.text_lines.specs.declared.line_feed.Found.{Found}
-use Rattle.text_lines.specs.Feed.{Feed, ahead, ended_ahead, IsFront, IsAtEnd, ReadsOn}
+use Rattle.text_lines.specs.Feed.{Feed, ahead, ended_ahead, NeedsMore, IsFront, IsAtEnd, ReadsOn}
 use Rattle.text_lines.proofs.FeedLemmas.{ahead_read, ended_ahead_read, ahead_kept, ended_ahead_kept, Advances-none, Advances-then, below_later, front_found, front_last, rest_read, rest_ended, IsRest}
 use Rattle.text_lines.proofs.line_feed.LineFeed.find.Goals as goal
 
@@ -15,13 +15,17 @@ reads-init g c = record {
   lines = refl;
   advances = Advances-none _ _ _ (omega arith);
   later = omega arith;
+  at_hand = λ _. refl;
+  unread = λ _. refl;
   due = λ _. refl;
   calm = refl;
   opened = refl;
 }
 
 pub returns-in-Some-clause-line : goal.returns-in-Some-clause-line
-returns-in-Some-clause-line g c = front_found _ _ _ _ c.in-Some.ensures.line
+returns-in-Some-clause-line g c =
+    let front = front_found (g.S.Shelf.told c.reads.shelf) c.reads.self c.in-Some.found.len c.in-Some.found.whole c.in-Some.ensures.line in
+    search (rules, front)
 
 pub returns-in_err-n-clause-ahead : goal.returns-in_err-n-clause-ahead
 returns-in_err-n-clause-ahead g c =
@@ -93,6 +97,8 @@ reads-preserved g c =
       lines = c.in_ok-n.ensures.lines ∙ c.reads.invariant.lines;
       advances = Advances-then _ _ _ _ _ c.in_ok-n.n _ below_then c.reads.invariant.advances reads (omega arith);
       later = omega arith;
+      at_hand = λ h. absurd (h (subst NeedsMore (c.reads.invariant.at_hand h) c.in_default.ensures.line));
+      unread = λ h. absurd (h (subst NeedsMore (c.reads.invariant.at_hand h) c.in_default.ensures.line));
       due = λ h. absurd (c.if-self-eq-MOST_BYTES.false (ap (λ (f : Feed). f.taken) c.self.view_is ∙ ap (λ (f : Feed). f.taken) (c.reads.invariant.due h) ∙ h));
       calm = c.in_ok-n.ensures.calm ∙ c.reads.invariant.calm;
       opened = c.in_ok-n.ensures.opened ∙ c.reads.invariant.opened;
