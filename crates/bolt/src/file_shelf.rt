@@ -30,20 +30,37 @@ impl<'a, R: Files> FileShelf<'a, R> {
 }
 
 impl<'a, R: Files> Shelf for FileShelf<'a, R> {
-    ghost use Rattle.std.specs.Prelude.{None, length};
-    ghost use Rattle.bolt_io.specs.Faults.{count_of, count_of-fits};
+    ghost use Rattle.std.specs.Prelude.{◌≡◌, ◌≢◌, ◌+◌, ◌<◌, ◌≤◌, ◌^◌, ℕ, length, take, IfOk, OnOk, OnErr, IfSome, IsErrOf, slice_get};
+    ghost use Rattle.std.specs.Option.{option_map};
+    ghost use Rattle.std.specs.Io.KnownBytes.{ReadConsumes};
+    ghost use Rattle.bolt_io.specs.Faults.{count_of, count_of-fits, Rose};
+    ghost use Rattle.bolt_io.specs.Told.{opened_at, taken_from, left, GivesNext};
+    ghost use Rattle.bolt.specs.Untold.{untold};
 
     ghost faults = { λ s. count_of s.faults };
 
     ghost opened = { λ s. length s.files.items };
 
-    ghost told = { λ s. None };
+    ghost told = { λ s. untold };
 
     ghost tells_slots = { λ s. tt };
 
     ghost faults_fit = { λ s. count_of-fits s.faults };
 
-    fn open(&mut self, name: &str) -> Result<u32, OpenFault> {
+    // The files of the earlier slots stay in them.
+    fn open(&mut self, name: &str) -> Result<u32, OpenFault>
+        requires { length self.old.files.items < 2 ^ 31 }
+        ensures slot { IfOk result (λ slot. slot ≡ length self.old.files.items) }
+        ensures one_more { OnOk result (length self.new.files.items ≡ length self.old.files.items + 1) }
+        ensures kept { take (length self.old.files.items) self.new.files.items ≡ self.old.files.items }
+        ensures told { OnOk result (untold ≡ option_map (opened_at name.now) untold) }
+        ensures none_more { OnErr result (length self.new.files.items ≡ length self.old.files.items) }
+        ensures untouched { OnErr result (untold ≡ untold) }
+        ensures failed { IsErrOf result OpenFault.Failed → Rose (count_of self.old.faults) (count_of self.new.faults) }
+        ensures memory { IsErrOf result OpenFault.Memory → count_of self.new.faults ≡ count_of self.old.faults }
+        ensures calm { OnOk result (count_of self.new.faults ≡ count_of self.old.faults) }
+        ensures later { count_of self.old.faults ≤ count_of self.new.faults }
+    {
         let slot = self.files.len() as u32;
         match File::open(self.rt, name) {
             Ok(file) => match self.files.push(file) {
@@ -57,7 +74,23 @@ impl<'a, R: Files> Shelf for FileShelf<'a, R> {
         }
     }
 
-    fn read(&mut self, slot: u32, buf: &mut [u8]) -> Result<usize, ShelfFault> {
+    // Where the file of the slot tells its bytes, those that were answered are its next ones, none only at its end, and a fault
+    // takes none.
+    fn read(&mut self, slot: u32, buf: &mut [u8]) -> Result<usize, ShelfFault>
+        requires slot { slot < length self.old.files.items }
+        requires room { 0 < length buf.old }
+        ensures within { IfOk result (λ n. n ≤ length buf.old) }
+        ensures consumes { IfSome (slice_get self.old.files.items slot) (λ old. IfSome (slice_get self.new.files.items slot)
+            (λ new. ReadConsumes (R.File.remaining old) (R.File.remaining new) result buf.new)) }
+        ensures told { IfOk result (λ n. untold ≡ option_map (taken_from slot n) untold) }
+        ensures bytes { IfOk result (λ n. IfSome untold (λ t. GivesNext (left t slot) n buf.new)) }
+        ensures untouched { OnErr result (untold ≡ untold) }
+        ensures others { (k : ℕ) → k ≢ slot → slice_get self.new.files.items k ≡ slice_get self.old.files.items k }
+        ensures opened { length self.new.files.items ≡ length self.old.files.items }
+        ensures failed { OnErr result (Rose (count_of self.old.faults) (count_of self.new.faults)) }
+        ensures calm { OnOk result (count_of self.new.faults ≡ count_of self.old.faults) }
+        ensures later { count_of self.old.faults ≤ count_of self.new.faults }
+    {
         match self.files[slot as usize].read(buf) {
             Ok(n) => Ok(n),
             Err(_) => {

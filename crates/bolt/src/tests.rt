@@ -2,8 +2,8 @@
 use crate::file_shelf::FileShelf;
 use crate::std_sink::StdSink;
 use bolt_io::{OpenFault, Shelf, Sink, read_whole};
-use std::fs;
 use std::test::Fail;
+use std::{fs, io};
 
 #[test]
 fn a_file_is_read_and_an_absent_one_is_a_fault(rt: HostRuntime) -> Result<(), Fail> {
@@ -20,7 +20,7 @@ fn a_file_is_read_and_an_absent_one_is_a_fault(rt: HostRuntime) -> Result<(), Fa
 
 #[test]
 fn a_line_is_written(rt: HostRuntime) -> Result<(), Fail> {
-    let mut out = StdSink::new(&rt);
+    let mut out = StdSink::new(io::writer(&rt));
     let line = b"a line of the sink\n".as_slice();
     let n = out.write(line)?;
     assert!(rt; 1 <= n && n <= line.len());

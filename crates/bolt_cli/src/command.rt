@@ -1,5 +1,5 @@
 // The command.
-ghost use Rattle.std.specs.Prelude.{◌≡◌, ◌≢◌, ◌⊎◌, ◌<◌, ◌^◌, IfOk, OnOk, IfSome, IsErrOf};
+ghost use Rattle.std.specs.Prelude.{◌≡◌, ◌≢◌, ◌⊎◌, ◌+◌, ◌<◌, ◌^◌, IfOk, OnOk, IfSome, IsErrOf};
 ghost use Rattle.std.specs.Option.{option_map};
 ghost use Rattle.bolt_io.specs.Faults.{Rose};
 ghost use Rattle.bolt_io.specs.Written.{Wrote, WrotePart};
@@ -34,6 +34,10 @@ fn still<S: Shelf, K: Sink>(
     ensures read { IfOk result (λ status. IsMade status →
         S.told shelf.new ≡ option_map (named_to_end (texts words.now)) (S.told shelf.old)) }
     ensures too_long { IsErrOf result Stop.TooLong → IfSome (S.told shelf.old) (ReadsLong (texts words.now)) }
+    ensures untouched { IfOk result (λ status. status ≡ 2 → S.told shelf.new ≡ S.told shelf.old) }
+    ensures none_opened { IfOk result (λ status. status ≡ 2 → S.opened shelf.new ≡ S.opened shelf.old) }
+    ensures graph_opened { IfOk result (λ status. status ≡ 4 → S.opened shelf.new ≡ S.opened shelf.old + 1) }
+    ensures both_opened { IfOk result (λ status. IsMade status → S.opened shelf.new ≡ S.opened shelf.old + 2) }
     ensures shelf_cause { BlamesShelf result (S.faults shelf.old) (S.faults shelf.new) }
     ensures sink_cause { BlamesSink result (K.faults out.old) (K.faults out.new) }
 {
@@ -93,6 +97,12 @@ pub fn bolt_still<S: Shelf, K: Sink, T: Gate + Sync>(
     ensures read { IsMade result →
         S.told shelf.new ≡ option_map (named_to_end (texts words.now)) (S.told shelf.old) }
 
+    // With 2 no file was opened or read, with 4 the graph's alone was opened, and with 0 or 1 two were.
+    ensures untouched { result ≡ 2 → S.told shelf.new ≡ S.told shelf.old }
+    ensures none_opened { result ≡ 2 → S.opened shelf.new ≡ S.opened shelf.old }
+    ensures graph_opened { result ≡ 4 → S.opened shelf.new ≡ S.opened shelf.old + 1 }
+    ensures both_opened { IsMade result → S.opened shelf.new ≡ S.opened shelf.old + 2 }
+
     // Where neither count rose and no file that is read gives 2^40 bytes without an end, the reply was written whole, or memory
     // was wanting.
     ensures complete { IfSome (S.told shelf.old) (λ t.
@@ -151,6 +161,12 @@ pub fn bolt<S: Shelf, K: Sink, T: Gate + Sync, R: Wait>(
     ensures short { IsMade result → IfSome (S.told shelf.old) (NamesShort (texts words.now)) }
     ensures read { IsMade result →
         S.told shelf.new ≡ option_map (named_to_end (texts words.now)) (S.told shelf.old) }
+
+    // With 2 no file was opened or read, with 4 the graph's alone was opened, and with 0 or 1 two were.
+    ensures untouched { result ≡ 2 → S.told shelf.new ≡ S.told shelf.old }
+    ensures none_opened { result ≡ 2 → S.opened shelf.new ≡ S.opened shelf.old }
+    ensures graph_opened { result ≡ 4 → S.opened shelf.new ≡ S.opened shelf.old + 1 }
+    ensures both_opened { IsMade result → S.opened shelf.new ≡ S.opened shelf.old + 2 }
 
     // Where neither count rose and no file that is read gives 2^40 bytes without an end, the reply was written whole, or memory
     // was wanting.

@@ -1,5 +1,5 @@
 // A run, in the order in which it reads and writes.
-ghost use Rattle.std.specs.Prelude.{◌≡◌, ◌≢◌, ◌<◌, ◌^◌, Ok, IfOk, OnOk, IfSome, IsErrOf};
+ghost use Rattle.std.specs.Prelude.{◌≡◌, ◌≢◌, ◌+◌, ◌<◌, ◌^◌, Ok, IfOk, OnOk, IfSome, IsErrOf};
 ghost use Rattle.std.specs.Option.{option_map};
 ghost use Rattle.run_text.specs.Run.{graph_reply, run_reply, IsRunStatus};
 ghost use Rattle.bolt_cli.specs.Command.{IsMade};
@@ -29,6 +29,7 @@ fn run_opened<S: Shelf, K: Sink>(
     ensures made { IfOk result IsMade }
     ensures short { OnOk result (IfSome (S.told shelf.old) (λ t. IsShort t stream.now)) }
     ensures read { OnOk result (S.told shelf.new ≡ option_map (read_to_end stream.now) (S.told shelf.old)) }
+    ensures opened { OnOk result (S.opened shelf.new ≡ S.opened shelf.old + 1) }
     ensures too_long { IsErrOf result Stop.TooLong → IfSome (S.told shelf.old) (λ t. IsLong t stream.now) }
     ensures shelf_cause { BlamesShelf result (S.faults shelf.old) (S.faults shelf.new) }
     ensures sink_cause { BlamesSink result (K.faults out.old) (K.faults out.new) }
@@ -58,6 +59,8 @@ pub fn run<S: Shelf, K: Sink>(
         IfSome (S.told shelf.old) (λ t. AreShort t graph.now stream.now)) }
     ensures read { IfOk result (λ status. status ≢ 4 →
         S.told shelf.new ≡ option_map (both_to_end graph.now stream.now) (S.told shelf.old)) }
+    ensures graph_opened { IfOk result (λ status. status ≡ 4 → S.opened shelf.new ≡ S.opened shelf.old + 1) }
+    ensures both_opened { IfOk result (λ status. status ≢ 4 → S.opened shelf.new ≡ S.opened shelf.old + 2) }
     ensures too_long { IsErrOf result Stop.TooLong → IfSome (S.told shelf.old) (λ t. MeetsLong t graph.now stream.now) }
     ensures not_long { OnOk result (IfSome (S.told shelf.old) (λ t. ¬ MeetsLong t graph.now stream.now)) }
     ensures shelf_cause { BlamesShelf result (S.faults shelf.old) (S.faults shelf.new) }

@@ -105,6 +105,7 @@ fn run_slot<S: Shelf, K: Sink>(
     ensures short { OnOk result (IfSome (S.told shelf.old) (λ t. length (left t slot) < 2 ^ 40)) }
     ensures end { OnOk result (IfSome (S.told shelf.new) (λ t. left t slot ≡ [])) }
     ensures took { TookBytes (S.told shelf.old) (S.told shelf.new) slot }
+    ensures opened { S.opened shelf.new ≡ S.opened shelf.old }
     ensures too_long { IsErrOf result Stop.TooLong → IfSome (S.told shelf.old) (λ t. 2 ^ 40 ≤ length (left t slot)) }
     ensures shelf_cause { BlamesShelf result (S.faults shelf.old) (S.faults shelf.new) }
     ensures sink_cause { BlamesSink result (K.faults out.old) (K.faults out.new) }
@@ -134,6 +135,7 @@ pub fn run_stream<S: Shelf, K: Sink>(
     ensures made { IfOk result IsMade }
     ensures short { OnOk result (IfSome (S.told shelf.old) (λ t. IsShort t stream.now)) }
     ensures read { OnOk result (S.told shelf.new ≡ option_map (read_to_end stream.now) (S.told shelf.old)) }
+    ensures opened { OnOk result (S.opened shelf.new ≡ S.opened shelf.old + 1) }
     ensures too_long { IsErrOf result Stop.TooLong → IfSome (S.told shelf.old) (λ t. IsLong t stream.now) }
     ensures shelf_cause { BlamesShelf result (S.faults shelf.old) (S.faults shelf.new) }
     ensures sink_cause { BlamesSink result (K.faults out.old) (K.faults out.new) }
