@@ -5,6 +5,11 @@ pub mod Plain
 pub mod EdgeAt
 pub mod Edits
 pub mod Change
+pub mod EditNames
+pub mod LawsOfEdits
+pub mod LawsOfChange
+pub mod TouchedPairs
+pub mod Picks
 pub mod Differs
 pub mod Keep
 pub mod RowTable
