@@ -1,5 +1,5 @@
 -- What edits leave as it was, and edits in two lists.
-use Rattle.std.proofs.Common.{◌≡◌, ◌≢◌, ℕ, ℤ, pos, ◌+◌, ◌≤◌, Bool, true, false, ◌||◌, ◌&&◌, cond, eqb, List, [], ◌∷◌, ◌++◌, length, get_or, set, refl, sym, ap, ◌∙◌, arith, inl, inr, Option, Some, None}
+use Rattle.std.proofs.Common.{◌≡◌, ◌≢◌, ℕ, ℤ, pos, ◌+◌, ◌≤◌, Bool, true, false, ◌||◌, ◌&&◌, cond, eqb, List, [], ◌∷◌, ◌++◌, length, get_or, set, refl, sym, ap, ◌∙◌, arith, inl, inr, Some, None}
 use Rattle.std.specs.Ordering.{eq_by_cmp}
 use Rattle.std.specs.List.{list_any}
 use Rattle.std.specs.FinMap as finite
@@ -13,10 +13,8 @@ use Rattle.bolt_base.specs.LawsOfEdits.{UnnamedPairsStay, UnnamedAttrsStay, NoVe
 use Rattle.bolt_base.specs.declared.edge.Edit.{Edit}
 use Rattle.bolt_base.specs.declared.edge.Edit.TheVariants.{Add, Cut, Attr}
 use Rattle.bolt_base.specs.declared.limits.Limits.{Limits}
-use Rattle.bolt_base.specs.declared.limits.LineCause.{LineCause}
 use Rattle.bolt_base.proofs.BadLemmas.{bad_from-append, bad_from-stays}
 use Rattle.bolt_base.proofs.EdgeMap.{pairs_total}
-use Rattle.bolt_base.proofs.EditLemmas.{one_if}
 use Rattle.bolt_base.proofs.GoodLemmas.{length-with_attr}
 use Rattle.bolt_base.proofs.PairOrder.{other_src, apart_dst}
 

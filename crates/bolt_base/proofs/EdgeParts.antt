@@ -1,8 +1,8 @@
 -- The edges of a graph are those that went and those that stayed, and those of the next one are those that came and those that stayed.
-use Rattle.std.proofs.Common.{◌≡◌, ℕ, ◌+◌, Bool, true, false, not, ◌||◌, cond, eqb, List, [], ◌∷◌, ◌++◌, filter, fold, length, refl, sym, ap, ◌∙◌, arith}
+use Rattle.std.proofs.Common.{◌≡◌, ◌+◌, Bool, true, false, not, ◌||◌, cond, eqb, List, [], ◌∷◌, ◌++◌, filter, fold, length, refl, sym, ap, ◌∙◌, arith}
 use Rattle.std.specs.List.{list_any}
-use Rattle.bolt_base.specs.Change.{stays, removed, added, stayed, is_source}
-use Rattle.bolt_base.specs.Graph.{Graph, edges, out_edges}
+use Rattle.bolt_base.specs.Change.{stays, removed, added, stayed}
+use Rattle.bolt_base.specs.Graph.{Graph, edges}
 use Rattle.bolt_base.specs.LawsOfChange.{AreParts, OldEdgesAreParts, NewEdgesAreParts, OldEdgesAreCounted, NewEdgesAreCounted, edge_stays, RemovedIsFilter, AddedIsFilter, StayedIsFilter, OutEdgesStay, StayedOutIsFilter}
 use Rattle.bolt_base.specs.declared.edge.Edge.{Edge}
 use Rattle.bolt_base.proofs.EdgeMap.{edges_at-filter, edges_at-shared}

@@ -1,12 +1,12 @@
 -- The lists of edges with one edge more, and with one less.
-use Rattle.std.proofs.Common.{◌≡◌, ◌≢◌, ℕ, ℤ, Bool, true, false, cond, eqb, List, [], ◌∷◌, ◌++◌, map, filter, refl, sym, ap, ◌∙◌, subst, Some, None}
+use Rattle.std.proofs.Common.{◌≡◌, ℤ, Bool, true, false, cond, eqb, List, [], ◌∷◌, ◌++◌, map, filter, refl, sym, ap, ◌∙◌, subst, Some, None}
 use Rattle.std.specs.declared.cmp.Ordering.TheVariants.{Less, Equal, Greater}
 use Rattle.std.specs.Ordering.{is_eq}
 use Rattle.std.specs.FinMap as finite
 use Rattle.std.specs.FinMap.Entries.{put, find, by_order}
 use Rattle.std.proofs.lemmas.Bool.{eq-eqb, ne_eqb}
 use Rattle.std.proofs.lemmas.List.Elements.{filter-append}
-use Rattle.bolt_base.specs.Graph.{Graph, Pair, pair_cmp, edge, edges, out_edges, in_edges}
+use Rattle.bolt_base.specs.Graph.{Graph, Pair, pair_cmp, edge, edges}
 use Rattle.bolt_base.specs.Edits.{edited}
 use Rattle.bolt_base.specs.EditNames.{IsInserted, IsOneMore}
 use Rattle.bolt_base.specs.LawsOfEdits.{AdditionIsOneMore, CutIsOneLess}

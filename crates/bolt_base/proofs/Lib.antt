@@ -21,3 +21,4 @@ pub mod Degrees
 pub mod EdgeParts
 pub mod AfterLemmas
 pub mod InsertLemmas
+pub mod RowColumns

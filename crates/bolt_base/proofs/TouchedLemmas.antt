@@ -1,6 +1,6 @@
 -- The edges that come and go are told by the touched pairs alone.
 use Rattle.std.proofs.Common.{◌≡◌, ℤ, Bool, true, false, not, cond, T, List, [], ◌∷◌, map, Option, Some, None, refl, sym, ap, ◌∙◌, subst}
-use Rattle.std.specs.List.{filter_map, cons_option}
+use Rattle.std.specs.List.{cons_option}
 use Rattle.std.specs.Ordering.{is_lt, is_eq, eq_by_cmp}
 use Rattle.std.specs.declared.cmp.Ordering.{Ordering}
 use Rattle.std.specs.declared.cmp.Ordering.TheVariants.{Less, Equal, Greater}
@@ -9,7 +9,7 @@ use Rattle.std.specs.FinMap as finite
 use Rattle.std.specs.FinMap.Entries.{find, below_all, is_sorted, same_entries}
 use Rattle.bolt_base.specs.Graph.{Graph, Pair, pair_cmp, edge}
 use Rattle.bolt_base.specs.Change.{same_weights, stays, removed, added}
-use Rattle.bolt_base.specs.TouchedPairs.{over, going, coming, with_key, picked, gone, come, AreTouched}
+use Rattle.bolt_base.specs.TouchedPairs.{over, with_key, picked, gone, come, AreTouched}
 use Rattle.bolt_base.proofs.EdgeMap.{pairs_total, pairs_exact}
 use Rattle.bolt_base.proofs.SortedKeys.{both, join}
 

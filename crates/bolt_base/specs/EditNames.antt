@@ -1,6 +1,5 @@
 -- What an edit names, and a list of edges with one more.
 use Rattle.std.specs.Prelude.{◌≡◌, ◌≢◌, ℕ, ◌+◌, ◌==◌, Bool, false, ◌&&◌, List, ◌∷◌, ◌++◌, Option, Some, None}
-use Rattle.std.specs.FinMap as finite
 use Rattle.bolt_base.specs.Graph.{Graph, Pair, edges, out_edges, in_edges}
 use Rattle.bolt_base.specs.declared.edge.Edge.{Edge}
 use Rattle.bolt_base.specs.declared.edge.Edit.{Edit}

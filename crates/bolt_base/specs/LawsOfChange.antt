@@ -1,9 +1,10 @@
 -- Laws of what changed from a graph to another one, each the clause of a public function.
-use Rattle.std.specs.Prelude.{◌≡◌, ℕ, ◌+◌, Bool, false, not, ◌==◌, List, ◌++◌, filter, fold, length, sum_by}
+use Rattle.std.specs.Prelude.{◌≡◌, ℕ, ℤ, ◌+◌, Bool, false, not, ◌==◌, List, ◌++◌, map, filter, fold, length, sum_by, Option}
 use Rattle.std.specs.FinMap as finite
 use Rattle.std.specs.List.{range_with_len}
 use Rattle.bolt_base.specs.Change.{stays, removed, added, stayed, is_source}
-use Rattle.bolt_base.specs.Graph.{Graph, IsGood, edges, out_edges, outdeg, indeg, vertices}
+use Rattle.bolt_base.specs.Graph.{Graph, Pair, IsGood, edge, edges, out_edges, outdeg, indeg, vertices}
+use Rattle.bolt_base.specs.TouchedPairs.{picked, gone, come, AreTouched}
 use Rattle.bolt_base.specs.declared.edge.Edge.{Edge}
 use Rattle.bolt_base.specs.declared.limits.Limits.{Limits}
 
@@ -65,3 +66,13 @@ OutDegreesSum = (l : Limits) (g : Graph) → IsGood l g → sum_by (outdeg g) (r
 
 abbrev pub InDegreesSum : Type 0
 InDegreesSum = (l : Limits) (g : Graph) → IsGood l g → sum_by (indeg g) (range_with_len 0 (vertices g)) ≡ length (edges g)
+
+-- ---- touched pairs
+-- where these pairs, with their new weights, are all in which h may differ from g, they tell what was removed and added
+abbrev pub TouchedTellRemoved : Type 0
+TouchedTellRemoved = (touched : List (Pair × Option ℤ)) (g h : Graph) → AreTouched touched g h
+    → removed g h ≡ map edge (picked (gone g) touched)
+
+abbrev pub TouchedTellAdded : Type 0
+TouchedTellAdded = (touched : List (Pair × Option ℤ)) (g h : Graph) → AreTouched touched g h
+    → added g h ≡ map edge (picked (come g) touched)

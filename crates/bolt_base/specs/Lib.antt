@@ -6,8 +6,11 @@ pub mod EdgeAt
 pub mod Edits
 pub mod Change
 pub mod EditNames
+pub mod GoodEdits
 pub mod LawsOfEdits
 pub mod LawsOfChange
+pub mod LawsOfLists
+pub mod LawsOfRows
 pub mod TouchedPairs
 pub mod Picks
 pub mod Differs
