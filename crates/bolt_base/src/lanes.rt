@@ -1,5 +1,6 @@
 // A number for each lane.
-ghost use Rattle.std.specs.Prelude.{◌≡◌, ℕ, ℤ, ◌<◌, ◌≤◌, length, slice_index_or, slice_set, pos, replicate, IsTrue, ◌↔◌};
+ghost use Rattle.std.specs.Prelude.{◌≡◌, ℕ, ℤ, ◌<◌, ◌≤◌, length, slice_index_or, slice_set, pos};
+ghost use Rattle.std.specs.Prelude.{replicate, IsTrue, ◌↔◌};
 
 use std::marker::Model;
 
@@ -23,7 +24,9 @@ impl Model for Lanes {
 
     ghost inverse = { λ xs. record { width = length xs; word = padded xs } };
 
-    ghost inverse_ok = { λ a h. let e = length-taken a.width a.word h in λ i. record { width = e i; word = h.zeros i } };
+    ghost inverse_ok = {
+      λ a h. let e = length-taken a.width a.word h in λ i. record { width = e i; word = h.zeros i }
+    };
 }
 
 impl Lanes {

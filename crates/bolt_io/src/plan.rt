@@ -6,8 +6,8 @@ ghost use Rattle.bolt_io.specs.Faults.{one_more};
 use bolt_base::{Items, Memory};
 use std::alloc::Global;
 
-/// The numbers of the calls that are to fail, counted from 1, and how many calls were made and failed. Both counts stay at
-/// the greatest `u64` once they are there.
+/// The numbers of the calls that are to fail, counted from 1, and how many calls were made and
+/// failed. Both counts stay at the greatest `u64` once they are there.
 #[derive(Debug, Drop)]
 pub struct FaultPlan {
     pub fails: Items<u64>,
@@ -29,7 +29,9 @@ impl FaultPlan {
 
     /// Adds a call that is to fail.
     pub fn fail_at(&mut self, call: u64) -> Result<(), Memory>
-        ensures ok { OnOk result (self.new ≡ record self.old { fails = self.old.fails ++ call ∷ [] }) }
+        ensures ok {
+          OnOk result (self.new ≡ record self.old { fails = self.old.fails ++ call ∷ [] })
+        }
         ensures err { OnErr result (self.new ≡ self.old) }
     {
         self.fails.push(call)
