@@ -114,10 +114,10 @@ impl Rows {
         requires vals { length vals.now ≡ self.old.vertices }
         requires agg_lanes { All (λ agg. length agg ≡ self.old.lanes) aggs.now }
         requires val_lanes { All (λ val. length val ≡ self.old.lanes) vals.now }
-        ensures ok {
-          OnOk result (self.new ≡ record self.old { rows = self.old.rows
-            ++ zip aggs.now vals.now ∷ [] })
-        }
+        ensures ok { OnOk result (self.new ≡ record self.old {
+          rows = self.old.rows
+              ++ zip aggs.now vals.now ∷ [];
+        }) }
         ensures err { OnErr result (self.new ≡ self.old) }
     {
         let alloc = *self.rows.allocator();

@@ -26,10 +26,8 @@ impl Model for CalmShelf {
 
     ghost Value = { ShelfState };
 
-    ghost view = {
-      λ s. record
-        { told = record { files = s.files.items; slots = s.slots.items }; piece = s.piece }
-    };
+    ghost view = { λ s. record
+        { told = record { files = s.files.items; slots = s.slots.items }; piece = s.piece } };
 
     ghost invariant = { λ s. 1 ≤ s.piece };
 }
