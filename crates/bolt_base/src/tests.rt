@@ -40,7 +40,10 @@ fn numbers_are_printed(rt: HostRuntime) -> Result<(), Fail> {
     text.push_decimal(4294967295)?;
     text.extend_from_slice(b" ")?;
     text.push_signed(-9223372036854775808)?;
-    assert_eq!(rt; text.as_slice(), b"ends 4294967295 -9223372036854775808".as_slice());
+    assert_eq!(rt;
+        text.as_slice(),
+        b"ends 4294967295 -9223372036854775808".as_slice()
+    );
     Ok(())
 }
 
