@@ -9,3 +9,4 @@ pub mod KeepLemmas
 pub mod PieceLemmas
 pub mod ResidueLemmas
 pub mod RowLemmas
+pub mod RowShapes

@@ -2,10 +2,13 @@ pub mod Padded
 pub mod Graph
 pub mod GraphCode
 pub mod Plain
+pub mod EdgeAt
 pub mod Edits
 pub mod Change
+pub mod Differs
 pub mod Keep
 pub mod RowTable
+pub mod RowShape
 pub mod RowsOf
 pub mod Pieces
 pub mod Residue

@@ -3,7 +3,8 @@ ghost use Rattle.std.specs.Prelude.{◌≡◌, IfOk};
 ghost use Rattle.bolt_base.specs.Plain.{AreApart, graph_of};
 
 use crate::edge::Edge;
-use crate::items::{AttrList, EdgeList, Memory};
+use crate::items::{AttrList, EdgeList};
+use crate::memory::Memory;
 use std::alloc::Global;
 use std::marker::Model;
 

@@ -2,6 +2,7 @@
 #![tactic(auto)]
 
 mod answer;
+mod decimals;
 mod edge;
 mod gate;
 mod graph_data;
@@ -9,6 +10,7 @@ mod items;
 mod lanes;
 mod laws;
 mod limits;
+mod memory;
 mod meter;
 mod rows;
 
@@ -17,17 +19,18 @@ pub use edge::{AttrChange, Edge, Edit, Touched};
 pub use gate::{Gate, OpenGate};
 pub use graph_data::GraphData;
 pub use items::{
-    Answer, AttrList, BatchList, Bytes, ChangeList, EdgeList, EditList, Items, LineList, Memory,
-    TargetList,
+    Answer, AttrChangeList, AttrList, BatchList, Bytes, ChangeList, EdgeList, EditList, Items,
+    LineList, SourceList, TargetList,
 };
 pub use lanes::Lanes;
 pub use laws::{
-    amounts_add_up, changes_are_net, good_stays_good, kept_reads_back, order_is_free,
+    amounts_add_up, bad_is_first, changes_are_net, good_stays_good, kept_reads_back, order_is_free,
     pieces_are_whole,
 };
 pub use limits::{Limits, LineCause};
+pub use memory::Memory;
 pub use meter::{Meter, VisitMeter};
-pub use rows::Rows;
+pub use rows::{MOST_ROWS, Rows};
 
 #[cfg(test)]
 mod tests;

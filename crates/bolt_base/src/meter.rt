@@ -26,14 +26,16 @@ pub trait Meter: Sized {
         ensures value { result ≡ held self.now }
         ensures some { 1 ≤ held self.now };
 
-    /// A piece with these units, which counts from 0.
+    /// A piece with these units, which counts from 0. The units before were below 2^32, so that the
+    /// piece can be joined again.
     fn split(&mut self, units: u32) -> Self
         requires some { 1 ≤ units }
         requires fewer { units < held self.old }
         ensures piece { held result ≡ units }
         ensures fresh { counted result ≡ 0 }
         ensures count { counted self.new ≡ counted self.old }
-        ensures rest { held self.new + units ≡ held self.old };
+        ensures rest { held self.new + units ≡ held self.old }
+        ensures below { held self.old < 2 ^ 32 };
 
     /// Takes another's count and units.
     fn join(&mut self, other: Self)

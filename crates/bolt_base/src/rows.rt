@@ -2,11 +2,15 @@
 ghost use Rattle.std.specs.Prelude.{◌≡◌, ℕ, pos, ◌<◌, ◌≤◌, ◌^◌, ◌++◌, ◌∷◌, [], length, slice_index_or, IfOk, OnOk, OnErr};
 ghost use Rattle.std.specs.List.{All, flat_map, zip};
 ghost use Rattle.bolt_base.specs.RowTable.{entry_at};
+ghost use Rattle.bolt_base.specs.RowShape.{AreRectangular};
 
-use crate::items::Memory;
 use crate::lanes::Lanes;
+use crate::memory::Memory;
 use std::alloc::{AllocError, Global};
 use std::marker::Model;
+
+/// The most rows of a run: those of the iterations 0 to 64.
+pub const MOST_ROWS: u32 = 65;
 
 // The numbers of a row: those of the aggregates, vertex by vertex and lane by lane, and those of the values.
 #[derive(Debug, Drop)]
@@ -57,6 +61,24 @@ impl Rows {
         ensures few { result ≤ 65 }
     {
         self.rows.len() as u32
+    }
+
+    /// The number of vertices, as `new` was given it: each row has one entry for each, both halves
+    /// of it one number for each lane, and there are at most `MOST_ROWS` rows.
+    pub fn vertices(&self) -> u32
+        ensures vertices { result ≡ self.now.vertices }
+        ensures shape { AreRectangular self.now }
+    {
+        self.vertices
+    }
+
+    /// The number of lanes, as `new` was given it, 1 to 8. `vertices` says how rows have it.
+    pub fn lanes(&self) -> u32
+        ensures lanes { result ≡ self.now.lanes }
+        ensures some { 1 ≤ result }
+        ensures narrow { result ≤ 8 }
+    {
+        self.lanes
     }
 
     /// A lane of the aggregate of vertex `v` at iteration `i`.

@@ -1,10 +1,10 @@
 -- What swaps and undone swaps leave.
 use Rattle.std.proofs.Common.{◌≡◌, ◌≢◌, ℕ, ◌+◌, ◌<◌, ◌≤◌, List, [], ◌∷◌, ◌++◌, length, get_or, set, take, drop, Bool, true, false, ◌||◌, eqb, ◌⊎◌, inl, inr, refl, sym, ap, ◌∙◌, subst, arith}
-use Rattle.std.proofs.lemmas.List.{length-set, set-set, set-get_or, take_more, take_more_set, take_all, drop_more, drop-set-lt, get_or-set_same, get_or-set_other}
+use Rattle.std.proofs.lemmas.List.{length-set, set-set, set-get_or, map-set, get_or-map, take_more, take_more_set, take_all, drop_more, drop-set-lt, get_or-set_same, get_or-set_other}
 use Rattle.std.proofs.lemmas.Bool.{cases_eq, ne_eqb}
 use Rattle.std.specs.List.{All}
 use Rattle.std.proofs.lemmas.List.Elements.{All-set, All-head, All-tail}
-use Rattle.swaps.specs.Swaps.{put_all, undo, AreInside}
+use Rattle.swaps.specs.Swaps.{put_all, undo, places, AreInside}
 
 pub undo-append : {X : Type 0} (items : List (ℕ × X)) (item : ℕ × X) (xs : List X) → undo (items ++ item ∷ []) xs ≡ undo items (set xs item.0 item.1)
 undo-append [] item xs = refl
@@ -31,6 +31,16 @@ pub record IsSwapped {X : Type 0} (i : ℕ) (xs : List X) (items : List (ℕ × 
   pub within : i ≤ length items0
   pub inside : AreInside (length xs) items
   pub size : length xs ≡ length xs0
+  pub places : places items ≡ places items0
+
+-- an item in another's stead at its place
+places_set : {X : Type 0} (items : List (ℕ × X)) (i : ℕ) (new old : ℕ × X) → new ≡ get_or items i new → new.0 ≡ old.0
+    → i < length items → places (set items i old) ≡ places items
+places_set {X} items i new old is same inside =
+    map-set (λ (item : ℕ × X). item.0) items i old
+    ∙ ap (set (places items) i)
+    (sym same ∙ ap (λ (item : ℕ × X). item.0) is ∙ sym (get_or-map (λ (item : ℕ × X). item.0) items i new 0 inside))
+    ∙ set-get_or (places items) i 0
 
 -- one swap more
 pub swapped_more : {X : Type 0} (i : ℕ) (xs : List X) (items : List (ℕ × X)) (xs0 : List X) (items0 : List (ℕ × X)) (place : ℕ) (new old : X) → IsSwapped i xs items xs0 items0 → i < length items0
@@ -50,6 +60,7 @@ swapped_more {X} i xs items xs0 items0 place new old s below read seen here =
       within = omega arith;
       inside = subst (λ n. AreInside n (set items i (place, old))) (sym (length-set xs place new)) (All-set (λ (item : ℕ × X). item.0 < length xs) items i (place, old) here s.inside);
       size = length-set xs place new ∙ s.size;
+      places = places_set items i (place, new) (place, old) read refl inner ∙ s.places;
     }
   where
     first : {a b : ℕ × X} {as' bs : List (ℕ × X)} (d : ℕ × X) → a ∷ as' ≡ b ∷ bs → a ≡ b

@@ -2,7 +2,7 @@
 #![tactic(auto)]
 
 ghost use Rattle.std.specs.Prelude.{◌≡◌, [], length};
-ghost use Rattle.swaps.specs.Swaps.{put_all, undo, AreInside};
+ghost use Rattle.swaps.specs.Swaps.{put_all, undo, places, AreInside};
 
 use std::mem;
 
@@ -17,6 +17,7 @@ pub fn swap_in<X>(all: &mut Vec<X>, items: &mut Vec<(u32, X)>)
     ensures inside { AreInside (length all.new.items) items.new.items }
     ensures length { length all.new.items ≡ length all.old.items }
     ensures count { length items.new.items ≡ length items.old.items }
+    ensures places { places items.new.items ≡ places items.old.items }
 {
     let count = items.len();
     for i in 0..count {
