@@ -1,9 +1,11 @@
 -- The arithmetic of intervals.
-use Rattle.std.specs.Prelude.{ℕ, ℤ, pos, ◌+ℤ◌, ◌-ℤ◌, ◌*ℤ◌, ◌^◌, ◌-◌, neg_ℤ, ◌&&◌, ◌≤ℤ◌, if◌then◌else◌, Option, Some, None}
+use Rattle.std.specs.Prelude.{ℕ, ℤ, pos, ◌+ℤ◌, ◌-ℤ◌, ◌*ℤ◌, ◌^◌, ◌-◌, neg_ℤ, ◌&&◌, ◌≤ℤ◌}
+use Rattle.std.specs.Prelude.{if◌then◌else◌, Option, Some, None}
 use Rattle.std.specs.Int.{int_min, int_max}
 use Rattle.vertex_expr.specs.Floor.{floor_div}
 use Rattle.vertex_expr.specs.ProgramBounds.{combined}
-use Rattle.vertex_expr.specs.Span.{Span, IsSmall, IsNarrow, is_narrow, hull, least_span, greatest_span}
+use Rattle.vertex_expr.specs.Span.{Span, IsSmall, IsNarrow, is_narrow, hull, least_span}
+use Rattle.vertex_expr.specs.Span.{greatest_span}
 use Rattle.vertex_expr.specs.declared.program.Combine.{Combine}
 use Rattle.range_check.specs.Breaks.{is_word}
 

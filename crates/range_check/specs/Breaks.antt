@@ -1,5 +1,6 @@
 -- What the range check refuses, in its order.
-use Rattle.std.specs.Prelude.{◌≡◌, ◌^◌, ◌-◌, ◌&&◌, ℕ, pos, neg_ℤ, int_le, Bool, if◌then◌else◌, List, [], ◌∷◌, ◌++◌, map, Option, Some, None, All}
+use Rattle.std.specs.Prelude.{◌≡◌, ◌^◌, ◌-◌, ◌&&◌, ℕ, pos, neg_ℤ, int_le, Bool, if◌then◌else◌, List}
+use Rattle.std.specs.Prelude.{[], ◌∷◌, ◌++◌, map, Option, Some, None, All}
 use Rattle.std.specs.List.{enumerate_from, zip}
 use Rattle.std.specs.Option.{option_or}
 use Rattle.vertex_expr.specs.ProgramBounds.{bounds_in, trees_in, spans_in, contributed, aggregated}

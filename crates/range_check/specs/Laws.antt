@@ -1,9 +1,11 @@
 -- Laws of the definitions, each the clause of a public function.
-use Rattle.std.specs.Prelude.{◌≡◌, ◌<◌, ◌≤◌, ℕ, ℤ, pos, List, All, length, slice_index_or, Option, Some, None, MatchOption, FitsSigned}
+use Rattle.std.specs.Prelude.{◌≡◌, ◌<◌, ◌≤◌, ℕ, ℤ, pos, List, All, length, slice_index_or, Option}
+use Rattle.std.specs.Prelude.{Some, None, MatchOption, FitsSigned}
 use mir.Syntax.{w64}
 use Rattle.vertex_expr.specs.Box.{InBounds}
 use Rattle.vertex_expr.specs.Meaning.{ev}
-use Rattle.vertex_expr.specs.ProgramBounds.{bounds_in, trees_in, lane_spans, contributed, aggregated}
+use Rattle.vertex_expr.specs.ProgramBounds.{bounds_in, trees_in, lane_spans, contributed}
+use Rattle.vertex_expr.specs.ProgramBounds.{aggregated}
 use Rattle.vertex_expr.specs.Safe.{IsEvaluable, IsSafe}
 use Rattle.vertex_expr.specs.Span.{Span, only, IsIn}
 use Rattle.vertex_expr.specs.Tree.{Tree, literal}

@@ -15,8 +15,8 @@ use Rattle.range_check.specs.declared.refusal.RangeRefusal.TheVariants.{Wide}
 use Rattle.range_check.specs.declared.walk.Walked.{Walked}
 use Rattle.range_check.specs.declared.walk.WalkedTwo.{WalkedTwo}
 
--- what the expressions of the part may read is there: these are the intervals of the aggregates that
--- it may mention
+-- what the expressions of the part may read is there: these are the intervals of the aggregates
+-- that it may mention
 pub record IsScope (p : ProgramEntries) (part : Part) (aggregates : List Span) : Type 0 where
   pub writable : IsWritable p
   pub agg : aggregates ≡ (bounds_in p part).agg

@@ -11,9 +11,9 @@ use crate::scope::Scope;
 use std::alloc::Global;
 use vertex_expr::{Part, Program, ProgramEntries};
 
-/// The program, accepted where it has no break. Any refusal but `Memory` is its first break, in this
-/// order: the nodes of init and the lanes of its values, the nodes of contribute, the lanes of the
-/// contributions and their aggregates, the nodes of apply and the lanes of its values.
+/// The program, accepted where it has no break. Any refusal but `Memory` is its first break, in
+/// this order: the nodes of init and the lanes of its values, the nodes of contribute, the lanes of
+/// the contributions and their aggregates, the nodes of apply and the lanes of its values.
 pub fn check(alloc: Global, program: Program) -> Result<Accepted, RangeRefusal>
     ensures program { IfOk result (λ accepted. accepted ≡ program) }
     ensures unbroken { IfOk result (λ _. first_break program ≡ None) }

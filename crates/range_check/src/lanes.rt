@@ -88,7 +88,8 @@ pub fn aggregates(
         IfOk result (λ _. first_sum 0 contributions.now aggregates ≡ None)
     }
     ensures broken {
-        let first = first_sum 0 contributions.now (aggregates_of combine degree contributions.now) in
+        let aggregates = aggregates_of combine degree contributions.now in
+        let first = first_sum 0 contributions.now aggregates in
         IfErr result (λ r. (r ≡ RangeRefusal.Memory) ⊎ (first ≡ Some r))
     }
 {

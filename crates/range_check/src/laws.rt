@@ -16,8 +16,8 @@ pub fn accepted_are_safe()
     ensures evaluable { TreesAreEvaluable }
 {}
 
-/// Within the bounds of its part, each contribution, aggregate and value of an accepted program lies
-/// in its interval and fits i64.
+/// Within the bounds of its part, each contribution, aggregate and value of an accepted program
+/// lies in its interval and fits i64.
 pub fn rows_are_safe()
     ensures contributions { ContributionsFit }
     ensures aggregates { AggregatesFit }

@@ -18,8 +18,8 @@ pub struct Walked {
     pub next: u32,
 }
 
-/// The intervals of two expressions, the second numbered behind the first, and the number of the node
-/// after them.
+/// The intervals of two expressions, the second numbered behind the first, and the number of the
+/// node after them.
 #[derive(Debug, Drop)]
 pub struct WalkedTwo {
     pub left: Interval,

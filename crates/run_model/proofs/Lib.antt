@@ -1,6 +1,4 @@
-pub mod Totals
 pub mod InRange
-pub mod EdgeTotals
 pub mod Refine
 pub mod WordSums
 pub mod Still

@@ -13,9 +13,9 @@ use Rattle.run_model.specs.Program.{is_sum}
 use Rattle.run_model.specs.Steps.{Step, step, is_new, is_dirty, dirty, is_target, is_active, active, is_tail_target, value_changed, degree_changed, attr_changed, reads_outdeg, reads_attr}
 use Rattle.run_model.specs.VisitLaws.{AreRead}
 use Rattle.run_model.specs.Visits.{in_visits, out_visits, sum_visits, pull_visits, tail_pull_visits, tail_sum_visits, step_visits, tail_step_visits, refine_visits, tail_visits, visits, degrees, changed}
-use Rattle.run_model.proofs.Degrees.{all_keys}
+use Rattle.bolt_base.proofs.Degrees.{all_keys, sum_by-plus, sum_by-same}
 use Rattle.run_model.proofs.Iteration.{new_is}
-use Rattle.run_model.proofs.VisitLemmas.{sum_by-plus, sum_by-same, within_twice}
+use Rattle.run_model.proofs.VisitLemmas.{within_twice}
 
 pub are_read : (h : Graph) (us vs : List ℕ) (v : ℕ) → AreRead h us vs v
 are_read h us vs v = record {

@@ -198,8 +198,8 @@ module _ (p : ProgramEntries) (h : Graph) (safe : IsAccepted p) (good : IsGood p
             (λ l small. tail_aggregates_stay p h i good v l some there small (sym (same_target p h i v) ∙ t)))
       ] refl
 
-  neither : (a b : Bool) → a ≡ false → b ≡ false → (a || b) ≡ false
-  neither a b e f = rw (e, f) refl
+  neither_or : (a b : Bool) → a ≡ false → b ≡ false → (a || b) ≡ false
+  neither_or a b e f = rw (e, f) refl
 
   tail_value_is : (v : ℕ) → v < vertices h → value_again p tail (aggr p h i) v ≡ at (row p h i) v
   tail_value_is v there =
@@ -209,7 +209,7 @@ module _ (p : ProgramEntries) (h : Graph) (safe : IsAccepted p) (good : IsGood p
             let three = or_false (is_new h v || is_target p tail v || value_changed tail v) (attr_changed tail v) t in
             let two = or_false (is_new h v || is_target p tail v) (value_changed tail v) three.0 in
             let one = or_false (is_new h v) (is_target p tail v) two.0 in
-            let calm = neither (is_tail_target p h i v) (is_active p h i v) (sym (same_target p h i v) ∙ one.1) two.1 in
+            let calm = neither_or (is_tail_target p h i v) (is_active p h i v) (sym (same_target p h i v) ∙ one.1) two.1 in
             sym (ap (λ (e : Entry). e.1) (tail_entries_stay p h i good v some there calm))
       ] refl
 

@@ -27,7 +27,7 @@ use Rattle.range_check.specs.Breaks.{IsAccepted}
 use Rattle.run_model.specs.Steps.{Step, step, tail_step, is_new, value_changed, degree_changed, attr_changed, reads_outdeg, reads_attr, is_dirty, dirty, is_target, is_applied, is_begun, old_agg, is_active, active, is_tail_target, is_tail_applied}
 use Rattle.run_model.proofs.InRange.{at_vertex}
 use Rattle.run_model.proofs.Iteration.{aggr_is, agg_is, row_is, old_agg_is, stayed_within, new_residue, new_is}
-use Rattle.run_model.proofs.Others.{kept}
+use Rattle.run_model.proofs.Others.{no_target_keeps}
 use Rattle.run_model.proofs.RowLemmas.{aggregates_fit, values_whole}
 use Rattle.run_model.proofs.Still.{or_false, not_new, same_value, same_attr}
 
@@ -46,8 +46,8 @@ sums_refined p g h safe sum good_g good_h i v l some there small =
     ∙ sym is
 
 -- adding what is taken from a word, with wrap-around
-wrapped : (a : ℤ) (n : ℕ) (z : ℤ) → FitsSigned w64 a → n < 2 ^ 64 → cast_signed w64 ((residue a + n) % 2 ^ 64) ≡ z → int_wrap w64 (a +ℤ cast_signed w64 n) ≡ z
-wrapped a n z f small e =
+wrapped_residue : (a : ℤ) (n : ℕ) (z : ℤ) → FitsSigned w64 a → n < 2 ^ 64 → cast_signed w64 ((residue a + n) % 2 ^ 64) ≡ z → int_wrap w64 (a +ℤ cast_signed w64 n) ≡ z
+wrapped_residue a n z f small e =
     ap (λ b. int_wrap w64 (b +ℤ cast_signed w64 n)) (sym (signed-residue a f))
     ∙ sym (wrapping_add-bits w64 (residue a) n (residue-lt a) small) ∙ e
 
@@ -66,13 +66,13 @@ pub taken_sums_refined : (p : ProgramEntries) (g h : Graph) → IsAccepted p →
     → (i v l : ℕ) → 1 ≤ i → v < vertices h → l < lanes p
     → int_wrap w64 (old_agg p g i v l +ℤ cast_signed w64 (sum_at (word p v l) (adds p g h i))) ≡ agg_at p h i v l
 taken_sums_refined p g h safe sum good_g good_h i v l some there small =
-    wrapped (old_agg p g i v l) (sum_at (word p v l) (adds p g h i)) (agg_at p h i v l) (old_agg_fits p g safe sum good_g i v l small) (sum_at-lt (word p v l) (adds p g h i))
+    wrapped_residue (old_agg p g i v l) (sum_at (word p v l) (adds p g h i)) (agg_at p h i v l) (old_agg_fits p g safe sum good_g i v l small) (sum_at-lt (word p v l) (adds p g h i))
     (sums_refined p g h safe sum good_g good_h i v l some there small)
 
 pub aggregates_stay : (p : ProgramEntries) (g h : Graph) → IsGood p.limits g → (i v l : ℕ) → 1 ≤ i → v < vertices h → l < lanes p
     → is_target p (step p g h i) v ≡ false → agg_at p h i v l ≡ old_agg p g i v l
 aggregates_stay p g h good i v l some there small none =
-    agg_is p h i v l some there small ∙ kept p (step p g h i) v l (stayed_within g h good.ends) none ∙ sym (old_agg_is p g i v l good some small)
+    agg_is p h i v l some there small ∙ no_target_keeps p (step p g h i) v l (stayed_within g h good.ends) none ∙ sym (old_agg_is p g i v l good some small)
 
 pub entries_stay : (p : ProgramEntries) (g h : Graph) → IsGood p.limits g → (i v : ℕ) → 1 ≤ i → v < vertices h
     → is_applied p (step p g h i) v ≡ false → entry p h i v ≡ entry p g i v
@@ -83,7 +83,7 @@ entries_stay p g h good i v some there calm =
     let one = or_false (is_new g v) (is_target p s v) two.0 in
     let was_there = there_if g v one.0 in
     let agg : at (aggr p h i) v ≡ at (aggr p g i) v =
-    aggr_is p h i v some there ∙ (λ j. by_lane p (λ l. kept p s v l (stayed_within g h good.ends) one.1 j)) ∙ sym (aggr_is p g i v some was_there) in
+    aggr_is p h i v some there ∙ (λ j. by_lane p (λ l. no_target_keeps p s v l (stayed_within g h good.ends) one.1 j)) ∙ sym (aggr_is p g i v some was_there) in
     let value : at (row p h (i - 1)) v ≡ at (row p g (i - 1)) v = same_value s v two.1 in
     let attr : attr_at h v ≡ attr_at g v = same_attr s v three.1 in
     let val : at (row p h i) v ≡ at (row p g i) v =
@@ -117,10 +117,10 @@ module _ (p : ProgramEntries) (h : Graph) (i : ℕ) where
   only_value true c e = refl
   only_value false c e = refl
 
-  beyond : (xs : List (List ℤ)) (u : ℕ) → length xs ≤ u → get_or xs u [] ≡ []
-  beyond [] u l = refl
-  beyond (x ∷ xs) zero l = absurd (omega arith)
-  beyond (x ∷ xs) (suc u) l = beyond xs u (omega arith)
+  none_beyond : (xs : List (List ℤ)) (u : ℕ) → length xs ≤ u → get_or xs u [] ≡ []
+  none_beyond [] u l = refl
+  none_beyond (x ∷ xs) zero l = absurd (omega arith)
+  none_beyond (x ∷ xs) (suc u) l = none_beyond xs u (omega arith)
 
   same_dirt : (u : ℕ) → is_dirty p s u ≡ is_active p h i u
   same_dirt u =
@@ -135,7 +135,7 @@ module _ (p : ProgramEntries) (h : Graph) (i : ℕ) where
             let a = (values_whole p h (i - 2)).each_vertex in
             let b = (values_whole p h (i - 1)).each_vertex in
             ap (λ b. not b && (value_changed s u || degree_changed s u && reads_outdeg p || attr_changed s u && reads_attr p)) (new_is h u l)
-            ∙ sym (λ j. not (pointwise int_eq (beyond (row p h (i - 2)) u (omega arith) j) (beyond (row p h (i - 1)) u (omega arith) j)))
+            ∙ sym (λ j. not (pointwise int_eq (none_beyond (row p h (i - 2)) u (omega arith) j) (none_beyond (row p h (i - 1)) u (omega arith) j)))
       ]
 
   same_dirty : dirty p s ≡ active p h i
@@ -173,19 +173,19 @@ module _ (p : ProgramEntries) (h : Graph) (i : ℕ) where
   pub tail_taken_sums_refined : IsAccepted p → p.combine ≡ Sum → IsGood p.limits h → (v l : ℕ) → 2 ≤ i → v < vertices h → l < lanes p
       → int_wrap w64 (agg_at p h (i - 1) v l +ℤ cast_signed w64 (sum_at (word p v l) (tail_adds p h i))) ≡ agg_at p h i v l
   tail_taken_sums_refined safe sum good v l some there small =
-      wrapped (agg_at p h (i - 1) v l) (sum_at (word p v l) (tail_adds p h i)) (agg_at p h i v l) (aggregates_fit p h safe good (i - 1) v l there small) (sum_at-lt (word p v l) (tail_adds p h i))
+      wrapped_residue (agg_at p h (i - 1) v l) (sum_at (word p v l) (tail_adds p h i)) (agg_at p h i v l) (aggregates_fit p h safe good (i - 1) v l there small) (sum_at-lt (word p v l) (tail_adds p h i))
       (tail_sums_refined safe sum good v l some there small)
 
   pub tail_aggregates_stay : IsGood p.limits h → (v l : ℕ) → 2 ≤ i → v < vertices h → l < lanes p → is_tail_target p h i v ≡ false → agg_at p h i v l ≡ agg_at p h (i - 1) v l
   tail_aggregates_stay good v l some there small none =
-      agg_is p h i v l (omega arith) there small ∙ kept p s v l (stayed_within h h good.ends) (same_target v ∙ none) ∙ sym (two_back v l some there small)
+      agg_is p h i v l (omega arith) there small ∙ no_target_keeps p s v l (stayed_within h h good.ends) (same_target v ∙ none) ∙ sym (two_back v l some there small)
 
   pub tail_entries_stay : IsGood p.limits h → (v : ℕ) → 2 ≤ i → v < vertices h → is_tail_applied p h i v ≡ false → entry p h i v ≡ entry p h (i - 1) v
   tail_entries_stay good v some there calm =
       let one = or_false (is_tail_target p h i v) (is_active p h i v) calm in
       let e : i - 1 - 1 ≡ i - 2 = omega arith in
       let agg : at (aggr p h i) v ≡ at (aggr p h (i - 1)) v =
-      aggr_is p h i v (omega arith) there ∙ (λ j. by_lane p (λ l. kept p s v l (stayed_within h h good.ends) (same_target v ∙ one.0) j))
+      aggr_is p h i v (omega arith) there ∙ (λ j. by_lane p (λ l. no_target_keeps p s v l (stayed_within h h good.ends) (same_target v ∙ one.0) j))
       ∙ sym (aggr_is p h (i - 1) v (omega arith) there ∙ ap (λ k. gathered p h (row p h k) v) e) in
       let value : at (row p h (i - 1)) v ≡ at (row p h (i - 2)) v = same_value s v one.1 in
       let val : at (row p h i) v ≡ at (row p h (i - 1)) v =

@@ -13,8 +13,8 @@ use Rattle.run_model.specs.Rows.{Lists, at, each_vertex, contribution}
 use Rattle.run_model.specs.declared.given.Contributions.{Contributions}
 use Rattle.run_model.specs.declared.given.Contributions.TheVariants.{BySource, ByEdge}
 
--- a row of values from which the next one can be computed: the program is accepted, the graph is good,
--- and each vertex has a value in its ranges
+-- a row of values from which the next one can be computed: the program is accepted, the graph is
+-- good, and each vertex has a value in its ranges
 pub record IsBefore (p : ProgramEntries) (g : Graph) (vals : Lists) : Type 0 where
   pub safe : IsAccepted p
   pub good : IsGood p.limits g

@@ -16,7 +16,8 @@ abbrev pub RowsHaveEntries : Type 0
 RowsHaveEntries = (p : ProgramEntries) (g : Graph) (cut i v : ℕ)
     → i ≤ cut → v < vertices g → entry_at (rows_to p g cut) i v ≡ entry p g i v
 
--- an aggregate and a value that are evaluated again are those of the new row, if the rows before are
+-- an aggregate and a value that are evaluated again are those of the new row, if the rows before
+-- are
 abbrev pub EntriesAreRefined : Type 0
 EntriesAreRefined = (p : ProgramEntries) (g h : Graph)
     → IsAccepted p → IsGood p.limits g → IsGood p.limits h

@@ -79,7 +79,8 @@ abbrev pub is_again : ProgramEntries → Graph → Graph → ℕ → ℕ → Boo
 is_again p g h zero v = is_begun (step p g h 0) v
 is_again p g h (suc i) v = is_applied p (step p g h (suc i)) v
 
--- what was put for a vertex at an iteration is its new entry, and where nothing was, nothing had to be
+-- what was put for a vertex at an iteration is its new entry, and where nothing was, nothing had to
+-- be
 pub record IsRefined (p : ProgramEntries) (g h : Graph) (put : Puts) (i v : ℕ) : Type 0 where
   pub right : (e : Entry) → put i v ≡ Some e → e ≡ entry p h i v
   pub rest : put i v ≡ None → is_again p g h i v ≡ false

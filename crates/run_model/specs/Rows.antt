@@ -25,15 +25,39 @@ each_vertex g f = map f (range_with_len 0 (vertices g))
 
 -- ---- what the expressions read; zeros stand for what a part may not mention
 abbrev pub init_env : ProgramEntries → Graph → ℕ → Env
-init_env p g v = record { val = zeros p; agg = zeros p; old = zeros p; outdeg = 0; weight = pos 0; attr = attr_at g v; id = v }
+init_env p g v = record {
+  val = zeros p;
+  agg = zeros p;
+  old = zeros p;
+  outdeg = 0;
+  weight = pos 0;
+  attr = attr_at g v;
+  id = v;
+}
 
 -- for an edge, under a row of values
 abbrev pub contribute_env : ProgramEntries → Graph → Lists → Edge → Env
-contribute_env p g row e = record { val = at row e.src; agg = zeros p; old = zeros p; outdeg = outdeg g e.src; weight = e.weight; attr = attr_at g e.src; id = e.src }
+contribute_env p g row e = record {
+  val = at row e.src;
+  agg = zeros p;
+  old = zeros p;
+  outdeg = outdeg g e.src;
+  weight = e.weight;
+  attr = attr_at g e.src;
+  id = e.src;
+}
 
 -- for a vertex with this aggregate, and this value at the iteration before
 abbrev pub apply_env : ProgramEntries → Graph → List ℤ → List ℤ → ℕ → Env
-apply_env p g agg before v = record { val = zeros p; agg = agg; old = before; outdeg = 0; weight = pos 0; attr = attr_at g v; id = v }
+apply_env p g agg before v = record {
+  val = zeros p;
+  agg = agg;
+  old = before;
+  outdeg = 0;
+  weight = pos 0;
+  attr = attr_at g v;
+  id = v;
+}
 
 -- ---- one vertex
 -- how an edge contributes to a lane
@@ -57,13 +81,16 @@ begun p g v = by_lane p (λ l. ev (params p) (init_env p g v) (tree_at p.init l)
 
 -- the next value of a vertex, from its aggregate and its value before
 abbrev pub applied : ProgramEntries → Graph → List ℤ → List ℤ → ℕ → List ℤ
-applied p g agg before v = by_lane p (λ l. ev (params p) (apply_env p g agg before v) (tree_at p.apply l))
+applied p g agg before v =
+    by_lane p (λ l. ev (params p) (apply_env p g agg before v) (tree_at p.apply l))
 
 -- ---- rows
 -- the values at an iteration
 abbrev pub row : ProgramEntries → Graph → ℕ → Lists
 row p g zero = each_vertex g (begun p g)
-row p g (suc i) = let before = row p g i in each_vertex g (λ v. applied p g (gathered p g before v) (at before v) v)
+row p g (suc i) =
+    let before = row p g i in each_vertex g
+    (λ v. applied p g (gathered p g before v) (at before v) v)
 
 -- the aggregates at an iteration
 abbrev pub aggr : ProgramEntries → Graph → ℕ → Lists
@@ -80,6 +107,10 @@ agg_at p g i v l = number (at (aggr p g i) v) l
 
 abbrev pub val_at : ProgramEntries → Graph → ℕ → ℕ → ℕ → ℤ
 val_at p g i v l = number (at (row p g i) v) l
+
+-- each vertex's number of out-edges
+abbrev pub out_degrees : Graph → List ℕ
+out_degrees g = map (outdeg g) (range_with_len 0 (vertices g))
 
 -- ---- entries
 -- what a vertex has at an iteration: its aggregate and its value

@@ -12,7 +12,8 @@ use Rattle.vertex_expr.specs.declared.program.ProgramEntries.{ProgramEntries}
 use Rattle.range_check.specs.Gathered.{empty_of}
 use Rattle.run_model.specs.Rows.{Lists, at, row, agg_at}
 
--- an iteration seen on both sides of a change: the two graphs, and the values that each had at the iteration before
+-- an iteration seen on both sides of a change: the two graphs, and the values that each had at the
+-- iteration before
 pub record Step : Type 0 where
   pub old_graph : Graph
   pub new_graph : Graph
@@ -21,11 +22,21 @@ pub record Step : Type 0 where
 
 -- iteration i on the old and on the new graph
 abbrev pub step : ProgramEntries → Graph → Graph → ℕ → Step
-step p g h i = record { old_graph = g; new_graph = h; old_row = row p g (i - 1); new_row = row p h (i - 1) }
+step p g h i = record {
+  old_graph = g;
+  new_graph = h;
+  old_row = row p g (i - 1);
+  new_row = row p h (i - 1);
+}
 
 -- past the cut: iterations i - 1 and i on one graph
 abbrev pub tail_step : ProgramEntries → Graph → ℕ → Step
-tail_step p h i = record { old_graph = h; new_graph = h; old_row = row p h (i - 2); new_row = row p h (i - 1) }
+tail_step p h i = record {
+  old_graph = h;
+  new_graph = h;
+  old_row = row p h (i - 2);
+  new_row = row p h (i - 1);
+}
 
 -- ---- vertices
 abbrev pub value_changed : Step → ℕ → Bool
@@ -44,9 +55,12 @@ reads_outdeg p = list_any mentions_outdeg p.contribute
 abbrev pub reads_attr : ProgramEntries → Bool
 reads_attr p = list_any mentions_attr p.contribute
 
--- a vertex that isn't new contributes otherwise than before: by its value, or by its out-degree or attribute where they are read
+-- a vertex that isn't new contributes otherwise than before: by its value, or by its out-degree or
+-- attribute where they are read
 abbrev pub is_dirty : ProgramEntries → Step → ℕ → Bool
-is_dirty p s u = not (is_new s.old_graph u) && (value_changed s u || degree_changed s u && reads_outdeg p || attr_changed s u && reads_attr p)
+is_dirty p s u =
+    not (is_new s.old_graph u) &&
+    (value_changed s u || degree_changed s u && reads_outdeg p || attr_changed s u && reads_attr p)
 
 -- the dirty vertices, rising
 abbrev pub dirty : ProgramEntries → Step → List ℕ

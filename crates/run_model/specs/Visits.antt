@@ -26,7 +26,9 @@ items_visits h its = sum_by (item_visits h) its
 
 -- ---- one iteration
 abbrev pub sum_visits : ProgramEntries → Step → ℕ
-sum_visits p s = length (removed s.old_graph s.new_graph) + length (added s.old_graph s.new_graph) + out_visits s.new_graph (dirty p s)
+sum_visits p s =
+    length (removed s.old_graph s.new_graph) + length (added s.old_graph s.new_graph)
+    + out_visits s.new_graph (dirty p s)
 
 abbrev pub pull_visits : ProgramEntries → Step → ℕ
 pull_visits p s = out_visits s.new_graph (dirty p s) + in_visits s.new_graph (targets p s)
@@ -75,4 +77,6 @@ net_sources g h = filter (is_source g h) (range_with_len 0 (vertices h))
 
 -- the sources of net changed edges and the dirty vertices, rising
 abbrev pub changed : ProgramEntries → Step → List ℕ
-changed p s = filter (λ u. is_source s.old_graph s.new_graph u || is_dirty p s u) (range_with_len 0 (vertices s.new_graph))
+changed p s =
+    filter (λ u. is_source s.old_graph s.new_graph u || is_dirty p s u)
+    (range_with_len 0 (vertices s.new_graph))

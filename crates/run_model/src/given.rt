@@ -1,13 +1,11 @@
 // What the edges give in an iteration.
-ghost use Rattle.std.specs.Prelude.{◌≡◌, ◌<◌, ◌↔◌, map, length, IfOk, IsTrue};
-ghost use Rattle.std.specs.List.{range_with_len};
-ghost use Rattle.bolt_base.specs.Graph.{vertices, outdeg};
+ghost use Rattle.std.specs.Prelude.{◌≡◌, ◌<◌, ◌↔◌, length, IfOk, IsTrue};
+ghost use Rattle.bolt_base.specs.Graph.{vertices};
 ghost use Rattle.range_check.specs.Breaks.{IsAccepted};
 ghost use Rattle.run_model.specs.Evaluable.{AreEvaluable};
 ghost use Rattle.run_model.specs.Given.{AreGiven, IsBefore, IsEdge, IsWeightless};
 ghost use Rattle.run_model.specs.Given.{edge_gives, source_gives};
-ghost use Rattle.run_model.specs.Program.{by_lane};
-ghost use Rattle.run_model.specs.Rows.{contribution, contribute_env, each_vertex};
+ghost use Rattle.run_model.specs.Rows.{contribute_env, each_vertex, out_degrees};
 
 use crate::numbers::evaluated;
 use bolt_base::{Edge, GraphData, Lanes, Memory};
@@ -46,11 +44,14 @@ fn contributed(
     vals: &[Lanes],
     e: Edge,
 ) -> Lanes
-    requires degrees { degrees.now ≡ map (outdeg graph.now) (range_with_len 0 (vertices graph.now)) }
+    requires degrees { degrees.now ≡ out_degrees graph.now }
     requires vals { length vals.now ≡ vertices graph.now }
     requires source { e.src < vertices graph.now }
-    requires lanes { AreEvaluable program.now (contribute_env program.now graph.now vals.now e) program.now.contribute }
-    ensures numbers { result ≡ by_lane program.now (λ l. contribution program.now graph.now vals.now l e) }
+    requires lanes {
+        let env = contribute_env program.now graph.now vals.now e in
+        AreEvaluable program.now env program.now.contribute
+    }
+    ensures numbers { result ≡ edge_gives program.now graph.now vals.now e }
 {
     let entries = program.entries();
     let zeros = Lanes::zeros(entries.ranges.len() as u32);
@@ -67,7 +68,8 @@ fn contributed(
     evaluated(program, &entries.contribute, &env)
 }
 
-// What each edge out of a vertex contributes, where weights don't matter; zeros where there is none.
+// What each edge out of a vertex contributes, where weights don't matter; zeros where there is
+// none.
 fn source_gives(
     program: &Program,
     graph: &GraphData,
@@ -76,7 +78,7 @@ fn source_gives(
     u: u32,
 ) -> Lanes
     requires before { IsBefore program.now graph.now vals.now }
-    requires degrees { degrees.now ≡ map (outdeg graph.now) (range_with_len 0 (vertices graph.now)) }
+    requires degrees { degrees.now ≡ out_degrees graph.now }
     requires source { u < vertices graph.now }
     ensures numbers { result ≡ source_gives program.now graph.now vals.now u }
 {
@@ -101,7 +103,7 @@ fn sources_give(
     vals: &[Lanes],
 ) -> Result<Vec<Lanes>, Memory>
     requires before { IsBefore program.now graph.now vals.now }
-    requires degrees { degrees.now ≡ map (outdeg graph.now) (range_with_len 0 (vertices graph.now)) }
+    requires degrees { degrees.now ≡ out_degrees graph.now }
     ensures given {
         let gives = source_gives program.now graph.now vals.now in
         IfOk result (λ given. given.items ≡ each_vertex graph.now gives)
@@ -124,7 +126,7 @@ pub fn contributions_after(
     vals: &[Lanes],
 ) -> Result<Contributions, Memory>
     requires before { IsBefore program.now graph.now vals.now }
-    requires degrees { degrees.now ≡ map (outdeg graph.now) (range_with_len 0 (vertices graph.now)) }
+    requires degrees { degrees.now ≡ out_degrees graph.now }
     ensures given { IfOk result (λ given. AreGiven program.now graph.now vals.now given) }
 {
     if !is_weightless(program) {
@@ -144,7 +146,7 @@ pub fn edge_gives(
     e: Edge,
 ) -> Lanes
     requires before { IsBefore program.now graph.now vals.now }
-    requires degrees { degrees.now ≡ map (outdeg graph.now) (range_with_len 0 (vertices graph.now)) }
+    requires degrees { degrees.now ≡ out_degrees graph.now }
     requires given { AreGiven program.now graph.now vals.now given.now }
     requires edge { IsEdge program.now graph.now e }
     ensures numbers { result ≡ edge_gives program.now graph.now vals.now e }

@@ -1,11 +1,21 @@
 // Laws of the definitions. Nothing runs here.
-ghost use Rattle.run_model.specs.RowLaws.{InitIsEvaluable, ContributeIsEvaluable, ApplyIsEvaluable, HalvesAreCombined};
-ghost use Rattle.run_model.specs.RowLaws.{RowsBegin, RowsGoOn, ValuesAreWhole, AggregatesAreWhole, ValuesAreInRange, AggregatesAreInRange, InitIsInBounds, ContributeIsInBounds, ApplyIsInBounds, ContributionsFit, AggregatesFit, ValuesFit};
+ghost use Rattle.run_model.specs.RowLaws.{InitIsEvaluable, ContributeIsEvaluable, ApplyIsEvaluable};
+ghost use Rattle.run_model.specs.RowLaws.{HalvesAreCombined};
+ghost use Rattle.run_model.specs.RowLaws.{RowsBegin, RowsGoOn, ValuesAreWhole, AggregatesAreWhole};
+ghost use Rattle.run_model.specs.RowLaws.{ValuesAreInRange, AggregatesAreInRange, InitIsInBounds};
+ghost use Rattle.run_model.specs.RowLaws.{ContributeIsInBounds, ApplyIsInBounds, ContributionsFit};
+ghost use Rattle.run_model.specs.RowLaws.{AggregatesFit, ValuesFit};
 ghost use Rattle.run_model.specs.StepLaws.{DirtyAreKnown, ChangedAreApplied, ChangedAreBegun};
-ghost use Rattle.run_model.specs.StepLaws.{SumsAreRefined, TakenSumsAreRefined, AddsAppend, AddsAreWithin, OthersGetNothing, AggregatesStay, EntriesStay, BeginningsStay, NewOnesHadNone, TargetsAreNamed, StayedAreOut, OutEdgesStay};
+ghost use Rattle.run_model.specs.StepLaws.{SumsAreRefined, TakenSumsAreRefined, AddsAppend};
+ghost use Rattle.run_model.specs.StepLaws.{AddsAreWithin, OthersGetNothing, AggregatesStay};
+ghost use Rattle.run_model.specs.StepLaws.{EntriesStay, BeginningsStay, NewOnesHadNone};
+ghost use Rattle.run_model.specs.StepLaws.{TargetsAreNamed};
 ghost use Rattle.run_model.specs.KeptLaws.{ColumnsAreEntries, KeptIsLeast};
-ghost use Rattle.run_model.specs.TailLaws.{TailAddsAreTheSame, ActiveWereApplied, TailIsAStep, TailSumsAreRefined, TailTakenSumsAreRefined, TailAggregatesStay, TailEntriesStay};
-ghost use Rattle.run_model.specs.VisitLaws.{ItemsReadVisits, TailItemsReadVisits, ItemsVisitsAppend};
+ghost use Rattle.run_model.specs.TailLaws.{TailAddsAreTheSame, ActiveWereApplied, TailIsAStep};
+ghost use Rattle.run_model.specs.TailLaws.{TailSumsAreRefined, TailTakenSumsAreRefined};
+ghost use Rattle.run_model.specs.TailLaws.{TailAggregatesStay, TailEntriesStay};
+ghost use Rattle.run_model.specs.VisitLaws.{ItemsReadVisits, TailItemsReadVisits};
+ghost use Rattle.run_model.specs.VisitLaws.{ItemsVisitsAppend};
 ghost use Rattle.run_model.specs.VisitLaws.{InDegreesSum, OutDegreesSum, VertexVisitsAppend};
 ghost use Rattle.run_model.specs.VisitLaws.{PullReadsEdges, TailPullReadsEdges};
 ghost use Rattle.run_model.specs.VisitLaws.{RefineVisitsGrow, TailVisitsBegin, TailVisitsGrow};
@@ -13,7 +23,8 @@ ghost use Rattle.run_model.specs.VisitLaws.{SumVisitsAreFew, BatchVisitsAreFew};
 ghost use Rattle.run_model.specs.RefineLaws.{RowsHaveEntries, EntriesAreRefined, RefinedAreNew};
 ghost use Rattle.run_model.specs.RefineLaws.{RefinedAreSeen, RefinementBegins, RefinementGoesOn};
 ghost use Rattle.run_model.specs.RefineLaws.{RefinementGrows, RefinementLeadsOn, TailRowsGoOn};
-ghost use Rattle.run_model.specs.LogLaws.{ChangesMakeTheNew, VerticesStay, RightBegins, RightGoesOn};
+ghost use Rattle.run_model.specs.LogLaws.{ChangesMakeTheNew, RightBegins};
+ghost use Rattle.run_model.specs.LogLaws.{RightGoesOn};
 
 /// What a vertex has at each iteration, from the one before.
 pub fn rows_are_computed()
@@ -24,7 +35,8 @@ pub fn rows_are_computed()
     ensures halves { HalvesAreCombined }
 {}
 
-/// For an accepted program and a good graph all that is read lies in its bounds, and each aggregate and value in its range.
+/// For an accepted program and a good graph all that is read lies in its bounds, and each aggregate
+/// and value in its range.
 pub fn rows_are_in_range()
     ensures values { ValuesAreInRange }
     ensures aggregates { AggregatesAreInRange }
@@ -33,7 +45,8 @@ pub fn rows_are_in_range()
     ensures apply { ApplyIsInBounds }
 {}
 
-/// In every environment inside their bounds the expressions of an accepted program can be evaluated to numbers of i64.
+/// In every environment inside their bounds the expressions of an accepted program can be evaluated
+/// to numbers of i64.
 pub fn bounds_are_evaluable()
     ensures init { InitIsEvaluable }
     ensures contribute { ContributeIsEvaluable }
@@ -70,11 +83,9 @@ pub fn others_stay()
     ensures new_ones { NewOnesHadNone }
 {}
 
-/// Which edges an iteration of a sum program reads and names.
-pub fn edges_are_named()
+/// The vertices to which the additions of an iteration go are its targets.
+pub fn targets_are_named()
     ensures targets { TargetsAreNamed }
-    ensures stayed { StayedAreOut }
-    ensures others { OutEdgesStay }
 {}
 
 /// Where values may have changed, and which vertices may be dirty.
@@ -95,7 +106,8 @@ pub fn tail_is_refined()
     ensures entries { TailEntriesStay }
 {}
 
-/// Entries that are evaluated again and put over old rows make the new rows, iteration after iteration.
+/// Entries that are evaluated again and put over old rows make the new rows, iteration after
+/// iteration.
 pub fn rows_are_refined()
     ensures rows { RowsHaveEntries }
     ensures entries { EntriesAreRefined }
@@ -108,8 +120,8 @@ pub fn rows_are_refined()
     ensures tail { TailRowsGoOn }
 {}
 
-/// The visits of an iteration are those of its items, the visits of a batch are summed iteration by iteration, and those of a
-/// sum program are few.
+/// The visits of an iteration are those of its items, the visits of a batch are summed iteration by
+/// iteration, and those of a sum program are few.
 pub fn visits_add_up()
     ensures items { ItemsReadVisits }
     ensures tail_items { TailItemsReadVisits }
@@ -129,7 +141,6 @@ pub fn visits_add_up()
 /// What changes from an answer to the next makes it, so a log of such changes is right.
 pub fn logs_stay_right()
     ensures changes { ChangesMakeTheNew }
-    ensures vertices { VerticesStay }
     ensures first { RightBegins }
     ensures next { RightGoesOn }
 {}

@@ -1,9 +1,9 @@
 // All rows of a program, by folds over the plain list of edges.
-ghost use Rattle.std.specs.Prelude.{◌≡◌, ℕ, map, IfOk};
-ghost use Rattle.std.specs.List.{range_with_len};
-ghost use Rattle.bolt_base.specs.Graph.{IsGood, vertices, outdeg};
+ghost use Rattle.std.specs.Prelude.{◌≡◌, ℕ, IfOk};
+ghost use Rattle.bolt_base.specs.Graph.{IsGood};
 ghost use Rattle.run_model.specs.Given.{IsBefore};
-ghost use Rattle.run_model.specs.Rows.{at, each_vertex, gathered, row, applied, table_of};
+ghost use Rattle.run_model.specs.Rows.{at, each_vertex, gathered, row, applied, out_degrees};
+ghost use Rattle.run_model.specs.Rows.{table_of};
 ghost use Rattle.range_check.specs.Breaks.{IsAccepted};
 
 use crate::given::{contributions_after, edge_gives};
@@ -17,10 +17,7 @@ use vertex_expr::{Env, Program};
 fn out_degrees(alloc: Global, program: &Program, graph: &GraphData) -> Result<Vec<u32>, Memory>
     requires safe { IsAccepted program.now }
     requires good { IsGood program.now.limits graph.now }
-    ensures degrees {
-        let all = map (outdeg graph.now) (range_with_len 0 (vertices graph.now)) in
-        IfOk result (λ degrees. degrees.items ≡ all)
-    }
+    ensures degrees { IfOk result (λ degrees. degrees.items ≡ out_degrees graph.now) }
 {
     let mut degrees = vec![in alloc; 0u32; graph.attrs().len()]?;
     let edges = graph.edges();
@@ -40,7 +37,7 @@ fn aggregates(
     vals: &[Lanes],
 ) -> Result<Vec<Lanes>, Memory>
     requires before { IsBefore program.now graph.now vals.now }
-    requires degrees { degrees.now ≡ map (outdeg graph.now) (range_with_len 0 (vertices graph.now)) }
+    requires degrees { degrees.now ≡ out_degrees graph.now }
     ensures aggregates {
         let gather = gathered program.now graph.now vals.now in
         IfOk result (λ aggs. aggs.items ≡ each_vertex graph.now gather)

@@ -1,4 +1,4 @@
-use Rattle.run_model.proofs.Degrees.{all_in, all_out}
+use Rattle.bolt_base.proofs.Degrees.{all_in, all_out}
 use Rattle.run_model.proofs.PullVisits.{are_read, pull_reads, tail_pull_reads, batch_visits_few}
 use Rattle.run_model.proofs.VisitLemmas.{visits_of_items, visits_of_tail_items, items_visits-append, refine_more, tail_none, tail_more, within_both, within_twice}
 use Rattle.run_model.proofs.laws.visits_add_up.Goals as goal
