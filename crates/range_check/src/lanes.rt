@@ -22,18 +22,12 @@ pub fn intervals(alloc: Global, exprs: &[Expr], scope: &Scope) -> Result<Interva
     requires scope { IsScope scope.now.entries.now scope.now.part scope.now.aggregates.now }
     requires known { All (IsKnownIn scope.now.entries.now scope.now.part) (map tree_of exprs.now) }
     requires few { length (numbered (map tree_of exprs.now)) ≤ 2048 }
-    ensures intervals {
-        let box = box_in scope.now.entries.now scope.now.part in
-        IfOk result (λ spans. spans ≡ map box (map tree_of exprs.now))
-    }
-    ensures unbroken {
-        let first = first_node scope.now.entries.now scope.now.part 0 (map tree_of exprs.now) in
-        IfOk result (λ _. first ≡ None)
-    }
-    ensures broken {
-        let first = first_node scope.now.entries.now scope.now.part 0 (map tree_of exprs.now) in
-        IfErr result (λ r. (r ≡ RangeRefusal.Memory) ⊎ (first ≡ Some r))
-    }
+    ensures intervals { let box = box_in scope.now.entries.now scope.now.part in
+        IfOk result (λ spans. spans ≡ map box (map tree_of exprs.now)) }
+    ensures unbroken { let first = first_node scope.now.entries.now scope.now.part 0 (map tree_of exprs.now) in
+        IfOk result (λ _. first ≡ None) }
+    ensures broken { let first = first_node scope.now.entries.now scope.now.part 0 (map tree_of exprs.now) in
+        IfErr result (λ r. (r ≡ RangeRefusal.Memory) ⊎ (first ≡ Some r)) }
 {
     let mut spans = IntervalList::new(alloc);
     let mut next = 0;
@@ -80,18 +74,12 @@ pub fn aggregates(
 ) -> Result<IntervalList, RangeRefusal>
     requires few { length contributions.now ≤ 8 }
     requires degree { degree ≤ 1000000 }
-    ensures aggregates {
-        IfOk result (λ spans. spans ≡ aggregates_of combine degree contributions.now)
-    }
-    ensures unbroken {
-        let aggregates = aggregates_of combine degree contributions.now in
-        IfOk result (λ _. first_sum 0 contributions.now aggregates ≡ None)
-    }
-    ensures broken {
-        let aggregates = aggregates_of combine degree contributions.now in
+    ensures aggregates { IfOk result (λ spans. spans ≡ aggregates_of combine degree contributions.now) }
+    ensures unbroken { let aggregates = aggregates_of combine degree contributions.now in
+        IfOk result (λ _. first_sum 0 contributions.now aggregates ≡ None) }
+    ensures broken { let aggregates = aggregates_of combine degree contributions.now in
         let first = first_sum 0 contributions.now aggregates in
-        IfErr result (λ r. (r ≡ RangeRefusal.Memory) ⊎ (first ≡ Some r))
-    }
+        IfErr result (λ r. (r ≡ RangeRefusal.Memory) ⊎ (first ≡ Some r)) }
 {
     let mut spans = IntervalList::new(alloc);
     for (lane, contribution) in contributions.iter().enumerate() {

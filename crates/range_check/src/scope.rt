@@ -20,10 +20,8 @@ pub struct Scope<'a> {
 /// The interval of a param.
 pub fn param(entries: &ProgramEntries, k: u32) -> Option<Interval>
     requires there { k < length (values_of entries.now.params) }
-    ensures param {
-        let values = values_of entries.now.params in
-        result ≡ narrowed (only (slice_index_or values k (pos 0)))
-    }
+    ensures param { let values = values_of entries.now.params in
+        result ≡ narrowed (only (slice_index_or values k (pos 0))) }
 {
     Interval::only(entries.params.as_slice()[k as usize].value)
 }
@@ -32,10 +30,8 @@ pub fn param(entries: &ProgramEntries, k: u32) -> Option<Interval>
 pub fn range(entries: &ProgramEntries, k: u32) -> Option<Interval>
     requires there { k < length (lane_spans entries.now.ranges) }
     requires writable { IsWritable entries.now }
-    ensures range {
-        let spans = lane_spans entries.now.ranges in
-        result ≡ narrowed (slice_index_or spans k (only (pos 0)))
-    }
+    ensures range { let spans = lane_spans entries.now.ranges in
+        result ≡ narrowed (slice_index_or spans k (only (pos 0))) }
 {
     let range = entries.ranges.as_slice()[k as usize];
     Interval::new(i128::from(range.lo), i128::from(range.hi))
@@ -52,10 +48,8 @@ pub fn outdeg(entries: &ProgramEntries) -> Option<Interval>
 /// The range of weights.
 pub fn weight(entries: &ProgramEntries) -> Option<Interval>
     requires writable { IsWritable entries.now }
-    ensures weight {
-        let limits = entries.now.limits in
-        result ≡ narrowed (span limits.weight_lo limits.weight_hi)
-    }
+    ensures weight { let limits = entries.now.limits in
+        result ≡ narrowed (span limits.weight_lo limits.weight_hi) }
 {
     Interval::new(
         i128::from(entries.limits.weight_lo),
@@ -66,10 +60,8 @@ pub fn weight(entries: &ProgramEntries) -> Option<Interval>
 /// The range of attributes.
 pub fn attr(entries: &ProgramEntries) -> Option<Interval>
     requires writable { IsWritable entries.now }
-    ensures attr {
-        let limits = entries.now.limits in
-        result ≡ narrowed (span limits.attr_lo limits.attr_hi)
-    }
+    ensures attr { let limits = entries.now.limits in
+        result ≡ narrowed (span limits.attr_lo limits.attr_hi) }
 {
     Interval::new(
         i128::from(entries.limits.attr_lo),

@@ -34,12 +34,10 @@ pub fn walk(expr: &Expr, scope: &Scope, first: u32) -> Result<Walked, RangeRefus
     requires scope { IsScope scope.now.entries.now scope.now.part scope.now.aggregates.now }
     requires known { IsKnownIn scope.now.entries.now scope.now.part (tree_of expr.now) }
     requires few { first + nodes (tree_of expr.now) ≤ 2048 }
-    ensures walked {
-        let p = scope.now.entries.now in
+    ensures walked { let p = scope.now.entries.now in
         let part = scope.now.part in
         let t = tree_of expr.now in
-        result ≡ walk_result (first_in p part first t) (box_in p part t) (first + nodes t)
-    }
+        result ≡ walk_result (first_in p part first t) (box_in p part t) (first + nodes t) }
 {
     let part = scope.part;
     match expr {
@@ -103,14 +101,12 @@ fn walk_two(a: &Operand, b: &Operand, scope: &Scope, first: u32) -> Result<Walke
     requires known_a { IsKnownIn scope.now.entries.now scope.now.part a.now }
     requires known_b { IsKnownIn scope.now.entries.now scope.now.part b.now }
     requires few { first + nodes a.now + nodes b.now ≤ 2048 }
-    ensures walked {
-        let p = scope.now.entries.now in
+    ensures walked { let p = scope.now.entries.now in
         let part = scope.now.part in
         let left = first_in p part first a.now in
         let right = first_in p part (first + nodes a.now) b.now in
         let next = first + nodes a.now + nodes b.now in
-        result ≡ two_result (option_or left right) (box_in p part a.now) (box_in p part b.now) next
-    }
+        result ≡ two_result (option_or left right) (box_in p part a.now) (box_in p part b.now) next }
 {
     let left = walk(a.get(), scope, first)?;
     let right = walk(b.get(), scope, left.next)?;

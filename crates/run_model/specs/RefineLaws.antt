@@ -71,5 +71,5 @@ abbrev pub TailRowsGoOn : Type 0
 TailRowsGoOn = (p : ProgramEntries) (h : Graph) → IsAccepted p → IsGood p.limits h
     → (i : ℕ) (aggs vals before : Lists) → 2 ≤ i → AreTailRows p h (i - 1) aggs vals before
     → let s = tail_seen h before vals in
-      let next = aggs_again p s aggs in
-      AreTailRows p h i next (values_again p s next) vals
+    let next = aggs_again p s aggs in
+    AreTailRows p h i next (values_again p s next) vals

@@ -47,10 +47,8 @@ fn contributed(
     requires degrees { degrees.now ≡ out_degrees graph.now }
     requires vals { length vals.now ≡ vertices graph.now }
     requires source { e.src < vertices graph.now }
-    requires lanes {
-        let env = contribute_env program.now graph.now vals.now e in
-        AreEvaluable program.now env program.now.contribute
-    }
+    requires lanes { let env = contribute_env program.now graph.now vals.now e in
+        AreEvaluable program.now env program.now.contribute }
     ensures numbers { result ≡ edge_gives program.now graph.now vals.now e }
 {
     let entries = program.entries();
@@ -104,10 +102,8 @@ fn sources_give(
 ) -> Result<Vec<Lanes>, Memory>
     requires before { IsBefore program.now graph.now vals.now }
     requires degrees { degrees.now ≡ out_degrees graph.now }
-    ensures given {
-        let gives = source_gives program.now graph.now vals.now in
-        IfOk result (λ given. given.items ≡ each_vertex graph.now gives)
-    }
+    ensures given { let gives = source_gives program.now graph.now vals.now in
+        IfOk result (λ given. given.items ≡ each_vertex graph.now gives) }
 {
     let vertices = graph.attrs().len() as u32;
     let mut given = Vec::new(alloc);

@@ -38,10 +38,8 @@ fn aggregates(
 ) -> Result<Vec<Lanes>, Memory>
     requires before { IsBefore program.now graph.now vals.now }
     requires degrees { degrees.now ≡ out_degrees graph.now }
-    ensures aggregates {
-        let gather = gathered program.now graph.now vals.now in
-        IfOk result (λ aggs. aggs.items ≡ each_vertex graph.now gather)
-    }
+    ensures aggregates { let gather = gathered program.now graph.now vals.now in
+        IfOk result (λ aggs. aggs.items ≡ each_vertex graph.now gather) }
 {
     let given = contributions_after(alloc, program, graph, degrees, vals)?;
     let empty = empties(program);
@@ -90,11 +88,9 @@ fn next_values(
 ) -> Result<Vec<Lanes>, Memory>
     requires before { IsBefore program.now graph.now vals.now }
     requires aggs { aggs.now ≡ each_vertex graph.now (gathered program.now graph.now vals.now) }
-    ensures values {
-        let gather = gathered program.now graph.now vals.now in
+    ensures values { let gather = gathered program.now graph.now vals.now in
         let apply = (λ (v : ℕ). applied program.now graph.now (gather v) (at vals.now v) v) in
-        IfOk result (λ next. next.items ≡ each_vertex graph.now apply)
-    }
+        IfOk result (λ next. next.items ≡ each_vertex graph.now apply) }
 {
     let entries = program.entries();
     let zeros = Lanes::zeros(entries.ranges.len() as u32);

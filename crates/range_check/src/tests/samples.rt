@@ -54,9 +54,7 @@ pub fn base(
     requires most { pos 0 ≤ℤ most }
     requires contribution { IsTextTree contribute_scope (tree_of contribution) }
     requires apply { IsTextTree apply_scope (tree_of apply) }
-    ensures base {
-        IfOk result (λ p. p ≡ base degree weight_lo most (tree_of contribution) (tree_of apply))
-    }
+    ensures base { IfOk result (λ p. p ≡ base degree weight_lo most (tree_of contribution) (tree_of apply)) }
     ensures lanes { IfOk result (λ p. length p.ranges ≡ 1) }
 {
     let mut ranges = RangeList::new(alloc);
