@@ -6,6 +6,7 @@ use Rattle.std.proofs.lemmas.List.{length-set}
 use Rattle.std.proofs.lemmas.List.Elements.{All-set, All-push}
 use Rattle.std.specs.List.{All}
 use Rattle.std.specs.FinMap as finite
+pub use Rattle.bolt_base.specs.GoodEdits.{IsGoodAddition, IsGoodCut, IsGoodSetting}
 use Rattle.bolt_base.specs.Graph.{Graph, IsGood, IsBetween, edges, outdeg, indeg, within}
 use Rattle.bolt_base.specs.Edits.{edited, after, one, unless, bad_from, bad, with_attr, is_between, has_vertices, has_edge, has_degrees, has_room, may_be_set}
 use Rattle.bolt_base.specs.declared.edge.Edge.{Edge}
@@ -40,15 +41,6 @@ pub both_below : (a b c d : ℕ) → (ltb a b && ltb c d) ≡ true → (a < b) �
 both_below a b c d h = let parts = and_parts (ltb a b) (ltb c d) h in (ltb-true a b parts.0, ltb-true c d parts.1)
 
 -- ---- what a good addition, a good cut and a good attribute edit find
-pub record IsGoodAddition (l : Limits) (g : Graph) (e : Edge) : Type 0 where
-  pub src : e.src < length g.attrs
-  pub dst : e.dst < length g.attrs
-  pub weight : IsBetween l.weight_lo l.weight_hi e.weight
-  pub absent : finite.get g.weights (e.src, e.dst) ≡ None
-  pub out_degree : outdeg g e.src < l.degree
-  pub in_degree : indeg g e.dst < l.degree
-  pub room : length (edges g) < l.edges
-
 pub good_addition : (l : Limits) (g : Graph) (e : Edge) → one l g (Add e) ≡ None → IsGoodAddition l g e
 good_addition l g e h =
     let a = passed (has_vertices g e.src e.dst) Vertex _ h in
@@ -67,12 +59,6 @@ good_addition l g e h =
       in_degree = degrees.1;
       room = ltb-true (length (edges g)) l.edges f.0;
     }
-
-pub record IsGoodCut (g : Graph) (s d : ℕ) : Type 0 where
-  pub src : s < length g.attrs
-  pub dst : d < length g.attrs
-  pub weight : ℤ
-  pub there : finite.get g.weights (s, d) ≡ Some weight
 
 pub good_cut : (l : Limits) (g : Graph) (s d : ℕ) → one l g (Cut s d) ≡ None → IsGoodCut g s d
 good_cut l g s d h =
@@ -94,11 +80,6 @@ All-with_attr P attrs v a here all = elim (eqb v (length attrs)) as (λ b. All P
   | true ↦ All-push P attrs a all here
   | false ↦ All-set P attrs v a here all
 ]
-
-pub record IsGoodSetting (l : Limits) (g : Graph) (v : ℕ) (a : ℤ) : Type 0 where
-  pub few : length (with_attr g.attrs v a) ≤ l.vertices
-  pub known : v ≤ length g.attrs
-  pub attr : IsBetween l.attr_lo l.attr_hi a
 
 pub good_setting : (l : Limits) (g : Graph) (v : ℕ) (a : ℤ) → length g.attrs ≤ l.vertices → one l g (Attr v a) ≡ None → IsGoodSetting l g v a
 good_setting l g v a fits h =

@@ -8,6 +8,7 @@ use Rattle.std.specs.FinMap as finite
 use Rattle.std.specs.FinMap.Entries.{find, find-append}
 use Rattle.bolt_base.specs.Graph.{Pair, Weights, pair_cmp, edge, edges}
 use Rattle.bolt_base.specs.Plain.{entry, AreApart, graph_of}
+pub use Rattle.bolt_base.specs.Plain.{found}
 use Rattle.bolt_base.specs.declared.edge.Edge.{Edge}
 use Rattle.bolt_base.specs.Edits.{edited}
 use Rattle.bolt_base.specs.declared.edge.Edit.TheVariants.{Add}
@@ -64,10 +65,6 @@ All-graph_of P attrs (e ∷ es) apart h =
     All-added (graph_of attrs es) e (none_at attrs e es apart) P (All-head P e es h) (All-graph_of P attrs es apart.1 (All-tail P e es h))
 
 -- ---- an edge at the end of the list
--- the weight of a pair, as a scan of the list from its front finds it
-abbrev pub found : List Edge → Pair → Option ℤ
-found es k = find pair_cmp k (map entry es)
-
 pub get-graph_of : (attrs : List ℤ) (es : List Edge) (k : Pair) → finite.get (graph_of attrs es).weights k ≡ found es k
 get-graph_of attrs es k = finite.get-from_entries pairs_total (map entry es) k
 

@@ -1,5 +1,5 @@
 -- Laws of the definitions, each the clause of a public function.
-use Rattle.std.specs.Prelude.{◌≡◌, ◌≢◌, ℕ, ℤ, ◌+◌, ◌-◌, ◌%◌, ◌^◌, ◌<◌, ◌≤◌, ◌+ℤ◌, Bool, List, [], ◌∷◌, ◌++◌, fold, length, slice_index_or, take, Some, None, MatchOption, FitsSigned}
+use Rattle.std.specs.Prelude.{◌≡◌, ◌≢◌, ℕ, ℤ, pos, sum_by, ◌+◌, ◌-◌, ◌%◌, ◌^◌, ◌<◌, ◌≤◌, ◌+ℤ◌, Bool, List, [], ◌∷◌, ◌++◌, fold, length, slice_index_or, take, Some, None, MatchOption, FitsSigned}
 use Rattle.std.specs.Int.{cast_signed, w64}
 use Rattle.bolt_base.specs.Graph.{Graph, IsGood, edges, within}
 use Rattle.bolt_base.specs.Plain.{AreApart, graph_of}
@@ -101,6 +101,10 @@ SumsAppend = (w : ℕ) (a b : List Amount) → sum_at w (a ++ b) ≡ (sum_at w a
 -- what numbers sum to, their residues do
 abbrev pub ResiduesAdd : Type 0
 ResiduesAdd = (a b : ℤ) → residue (a +ℤ b) ≡ (residue a + residue b) % 2 ^ 64
+
+-- and so for any numbers
+abbrev pub ManyResiduesAdd : Type 0
+ManyResiduesAdd = (zs : List ℤ) → sum_by residue zs % 2 ^ 64 ≡ residue (fold (λ sum z. sum +ℤ z) (pos 0) zs)
 
 -- a number that fits i64 is its residue, read as two's complement
 abbrev pub ResiduesAreSigned : Type 0

@@ -5,6 +5,14 @@ pub mod Plain
 pub mod EdgeAt
 pub mod Edits
 pub mod Change
+pub mod EditNames
+pub mod GoodEdits
+pub mod LawsOfEdits
+pub mod LawsOfChange
+pub mod LawsOfLists
+pub mod LawsOfRows
+pub mod TouchedPairs
+pub mod Picks
 pub mod Differs
 pub mod Keep
 pub mod RowTable
