@@ -8,12 +8,13 @@ use Rattle.std.proofs.lemmas.List.FromFn.{length-map-range_with_len}
 use Rattle.bolt_base.specs.Keep.{Entry, no_entry, column, stored}
 use Rattle.bolt_base.specs.RowTable.{entry_at}
 use Rattle.swaps.specs.Swaps.{put_all}
+use Rattle.bolt_base.proofs.RowColumns.{column_at, length-column, made_full, made_length}
 use Rattle.agg_history.specs.Entries.{entry_in}
 use Rattle.agg_history.specs.Puts.{PutTable, put_at, laid_at}
 use Rattle.bolt_base.specs.RowShape.{AreFull}
 use Rattle.agg_history.specs.Pruned.{Pruned, HistoryState, read_at, track_of, rows_from, rows_of, vertices_of, first_row, pruned}
 use Rattle.agg_history.specs.Belongs.{BelongsTo, NewArePut, HaveNoPut, laid_rows}
-use Rattle.agg_history.proofs.PrunedLemmas.{column_at, length-column, made_full, made_length, pruned_track, stands_for_rows}
+use Rattle.agg_history.proofs.PrunedLemmas.{pruned_track, stands_for_rows}
 use Rattle.agg_history.proofs.PutLemmas.{laid_reads}
 use Rattle.agg_history.proofs.MakeLemmas.{track_in}
 use Rattle.swaps.specs.Swaps.{placed}

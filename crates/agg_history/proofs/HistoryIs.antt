@@ -1,45 +1,17 @@
 -- What a history reads, and how much it keeps.
-use Rattle.std.proofs.Common.{◌≡◌, ℕ, suc, ◌+◌, ◌*◌, ◌<◌, ◌≤◌, Bool, true, false, List, [], ◌∷◌, length, get_or, map, take, drop, min, refl, sym, ap, ◌∙◌, arith, length-take, length-drop}
-use Rattle.std.specs.List.{sum_by, range_with_len}
+use Rattle.std.proofs.Common.{◌≡◌, ℕ, suc, ◌+◌, ◌*◌, ◌<◌, ◌≤◌, List, [], ◌∷◌, length, get_or, map, take, min, refl, sym, ap, ◌∙◌, arith, length-take}
+use Rattle.std.specs.List.{sum_by}
 use Rattle.std.proofs.lemmas.List.{get_or-take, get_or-map, length-map}
 use Rattle.std.proofs.lemmas.List.Elements.{All-get_or, All-from_get_or}
-use Rattle.std.proofs.lemmas.List.Sums.{sum_by-cons, sum_by-le}
-use Rattle.bolt_base.specs.Keep.{Entry, Row, no_entry, column, keep, kept, stored, read}
+use Rattle.std.proofs.lemmas.List.Sums.{sum_by-le}
+use Rattle.bolt_base.specs.Keep.{Entry, no_entry, column, keep, kept, read}
 use Rattle.bolt_base.specs.RowTable.{entry_at}
-use Rattle.bolt_base.proofs.KeepLemmas.{rest_below}
+use Rattle.bolt_base.proofs.RowColumns.{length-column, made_at, made_length, keep_below, length-stored, sum_kept}
 use Rattle.agg_history.specs.Entries.{Entries, entry_in}
 use Rattle.agg_history.specs.Pruned.{Pruned, HistoryState, track_of, read_at, first_row, pruned, rows_of, vertices_of}
 use Rattle.agg_history.specs.HistoryOf.{history_of, now_of, IsHistory}
 use Rattle.agg_history.specs.declared.history.History.TheInside.{Inside}
-use Rattle.agg_history.proofs.PrunedLemmas.{made_at, made_length, length-column, pruned_track}
-
--- ---- what is kept
--- of some entries, fewer are kept than there are
-pub keep_below : (vertical : Bool) (es : List Entry) → 0 < length es → keep vertical es < length es
-keep_below true es some = rest_below es some
-keep_below false es some = omega arith
-
-pub length-stored : (vertical : Bool) (es : List Entry) → 0 < length es
-    → length (stored vertical es) ≡ keep vertical es
-length-stored vertical es some = let k = keep_below vertical es some in
-    omega (arith, length-take (keep vertical es) (drop 1 es), length-drop 1 es)
-
-sum_tracks : (vertical : Bool) (rows : List Row) (vs : List ℕ) → 0 < length rows
-    → sum_by (λ track. length track) (map (λ v. stored vertical (column rows v)) vs)
-    ≡ sum_by (λ v. keep vertical (column rows v)) vs
-sum_tracks vertical rows [] some = refl
-sum_tracks vertical rows (v ∷ vs) some =
-    let here = length-stored vertical (column rows v) (omega (arith, length-column rows v)) in
-    let track : ℕ → List Entry = λ u. stored vertical (column rows u) in
-    sum_by-cons (λ (es : List Entry). length es) (track v) (map track vs)
-    ∙ (λ i. here i + sum_tracks vertical rows vs some i)
-    ∙ sym (sum_by-cons (λ u. keep vertical (column rows u)) v vs)
-
-pub sum_kept : (vertical : Bool) (rows : List Row) → 0 < length rows
-    → sum_by (λ track. length track) (pruned vertical rows).tracks
-    ≡ kept vertical rows (length (first_row rows))
-sum_kept vertical rows some = sum_tracks vertical rows
-    (range_with_len 0 (length (first_row rows))) some
+use Rattle.agg_history.proofs.PrunedLemmas.{pruned_track}
 
 module _ (h : Inside) (t : HistoryState) (is : history_of h ≡ t) (ok : IsHistory h) where
   pub now_is : now_of h ≡ t.now
@@ -71,7 +43,8 @@ module _ (h : Inside) (t : HistoryState) (is : history_of h ≡ t) (ok : IsHisto
   pub kept_is : h.kept ≡ kept t.vertical (rows_of t) (vertices_of t)
   kept_is = ok.kept
       ∙ ap (λ (p : Pruned). sum_by (λ track. length track) p.tracks) (now_is ∙ sym lean_is)
-      ∙ sum_kept t.vertical (rows_of t) some_rows ∙ ap (kept t.vertical (rows_of t)) first_count
+      ∙ sum_kept t.vertical (rows_of t) (length (first_row (rows_of t))) some_rows
+      ∙ ap (kept t.vertical (rows_of t)) first_count
 
   module _ (v : ℕ) (l : v < vertices_of t) where
     vertex : v < h.vertices

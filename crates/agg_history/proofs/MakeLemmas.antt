@@ -7,11 +7,10 @@ use Rattle.std.proofs.lemmas.List.Elements.{All-get_or}
 use Rattle.bolt_base.specs.Keep.{Entry, Row, no_entry, column, stored}
 use Rattle.bolt_base.specs.RowTable.{RowTable, entry_at}
 use Rattle.bolt_base.specs.RowShape.{AreFull, AreWide, IsWide}
+use Rattle.bolt_base.proofs.RowColumns.{column_at, length-column, keep_below, length-stored}
 use Rattle.agg_history.specs.Entries.{Entries}
 use Rattle.agg_history.specs.Pruned.{first_row, pruned}
 use Rattle.agg_history.specs.HistoryOf.{tracks_of}
-use Rattle.agg_history.proofs.PrunedLemmas.{column_at, length-column}
-use Rattle.agg_history.proofs.HistoryIs.{keep_below, length-stored}
 
 pub column_more : (rows : List Row) (v i : ℕ) → i < length rows
     → take (i + 1) (column rows v) ≡ take i (column rows v) ++ entry_at rows i v ∷ []

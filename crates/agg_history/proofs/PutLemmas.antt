@@ -7,9 +7,9 @@ use Rattle.std.proofs.lemmas.Bool.{cases_eq, cases_Bool, eq-eqb, ne_eqb}
 use Rattle.std.proofs.lemmas.Option.{none-some, same_Some}
 use Rattle.bolt_base.specs.Keep.{Entry, Row}
 use Rattle.bolt_base.specs.RowTable.{entry_at}
+use Rattle.bolt_base.proofs.RowColumns.{same_rows, made_at, made_full, made_length}
 use Rattle.agg_history.specs.Puts.{Round, round_at, put_at, with_put, laid_at, laid_over}
 use Rattle.agg_history.specs.Laws.{LeadsTo, LaidOverIsNew, LaidOverReads, PutIsFound, NoneIsPut, RightPutsStayRight}
-use Rattle.agg_history.proofs.PrunedLemmas.{same_rows, made_at, made_full, made_length}
 
 pub laid_reads : LaidOverReads
 laid_reads n puts rows i v h l = made_at (laid_at puts rows) n (length rows) i v h l

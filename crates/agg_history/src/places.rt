@@ -57,7 +57,8 @@ impl Places {
         ensures inside { All (λ v. v < length self.now.table) self.now.touched }
         ensures distinct { IsDistinct (λ u v. u == v) self.now.touched }
         ensures few { length self.now.touched ≤ length self.now.table }
-        ensures others { (v : ℕ) → v < length self.now.table → list_any (λ u. v == u) self.now.touched ≡ false
+        ensures others { (v : ℕ) → v < length self.now.table
+            → list_any (λ u. v == u) self.now.touched ≡ false
             → slice_index_or self.now.table v [] ≡ replicate self.now.width 0 }
     {
         let _width = self.width;

@@ -5,11 +5,11 @@ use Rattle.std.proofs.lemmas.List.{take_all, map_more}
 use Rattle.std.proofs.lemmas.List.Sums.{sum_by_more}
 use Rattle.bolt_base.specs.Keep.{stored}
 use Rattle.bolt_base.specs.RowTable.{entry_at}
+use Rattle.bolt_base.proofs.RowColumns.{column_at}
 use Rattle.agg_history.specs.Entries.{Entries, entry_in}
 use Rattle.agg_history.specs.Pruned.{track_of, vertices_of}
 use Rattle.agg_history.specs.Belongs.{laid_rows}
 use Rattle.agg_history.specs.Drafted.{new_list}
-use Rattle.agg_history.proofs.PrunedLemmas.{column_at}
 use Rattle.agg_history.proofs.MakeLemmas.{track_in, track_short}
 use Rattle.agg_history.proofs.DraftLemmas.{laid_count, kept_laid}
 use Rattle.agg_history.proofs.HistoryIs.{cut_is, vertical_is, lean_is, sum_is, kept_few}

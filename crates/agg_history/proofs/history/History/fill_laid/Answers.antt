@@ -1,12 +1,12 @@
 use Rattle.std.proofs.Common.{◌++◌, ◌∷◌, [], take, sym, ap, ◌∙◌, arith}
 use Rattle.std.proofs.lemmas.List.{take_all}
 use Rattle.bolt_base.specs.Keep.{column}
+use Rattle.bolt_base.proofs.RowColumns.{length-column}
 use Rattle.agg_history.specs.Entries.{Entries}
 use Rattle.agg_history.specs.Puts.{laid_at}
 use Rattle.agg_history.specs.Pruned.{rows_of}
 use Rattle.agg_history.specs.Belongs.{laid_rows}
 use Rattle.agg_history.proofs.MakeLemmas.{column_more}
-use Rattle.agg_history.proofs.PrunedLemmas.{length-column}
 use Rattle.agg_history.proofs.DraftLemmas.{laid_count, laid_entry}
 use Rattle.agg_history.proofs.history.History.fill_laid.Goals as goal
 

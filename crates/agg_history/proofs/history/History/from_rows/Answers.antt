@@ -5,9 +5,10 @@ use Rattle.std.proofs.lemmas.List.Elements.{All-same, All-map, All-from_get_or}
 use Rattle.std.proofs.lemmas.List.Sums.{sum_by_push}
 use Rattle.bolt_base.specs.Keep.{Entry, Row, column, stored}
 use Rattle.bolt_base.specs.RowTable.{RowTable, entry_at}
+use Rattle.bolt_base.proofs.RowColumns.{column_at}
 use Rattle.agg_history.specs.Entries.{Entries, entry_in}
 use Rattle.agg_history.specs.Pruned.{Pruned, pruned, rows_from}
-use Rattle.agg_history.proofs.PrunedLemmas.{column_at, stands_for_rows}
+use Rattle.agg_history.proofs.PrunedLemmas.{stands_for_rows}
 use Rattle.agg_history.proofs.MakeLemmas.{track_in, track_cells, track_short, first_wide, table_made}
 use Rattle.agg_history.proofs.history.History.from_rows.Goals as goal
 

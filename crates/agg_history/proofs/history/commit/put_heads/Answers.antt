@@ -41,7 +41,8 @@ loop-k-preserved c =
     ∙ ap (λ v. (v, entry_in c.args.heads.now.all c.loop-k.k)) place in
     let more : take (c.loop-k.k + 1) items ≡ take c.loop-k.k items
     ++ (c.index-lists-k.result.0, entry_in c.args.heads.now.all c.loop-k.k) ∷ [] =
-    take_more items c.loop-k.k (0, no_entry) (omega (arith, length-zip numbers c.args.heads.now.all))
+    take_more items c.loop-k.k (0, no_entry)
+    (omega (arith, length-zip numbers c.args.heads.now.all))
     ∙ ap (λ x. take c.loop-k.k items ++ x ∷ []) item in
     record {
       all = c.set_from.ensures

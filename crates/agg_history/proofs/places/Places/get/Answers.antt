@@ -19,7 +19,8 @@ index-requires c =
     omega (
       arith,
       place_inside c.self.inside c.args.self.now c.self.view_is c.self.invariant
-          c.args.v c.args.i c.requires.vertex c.requires.iteration (c.index-slot.result.now - 1) slot,
+          c.args.v c.args.i c.requires.vertex c.requires.iteration
+          (c.index-slot.result.now - 1) slot,
       c.self.inside.places.ok.0,
     )
 
