@@ -1,5 +1,7 @@
 -- What edits leave as it was, and edits in two lists.
-use Rattle.std.proofs.Common.{◌≡◌, ◌≢◌, ℕ, ℤ, pos, ◌+◌, ◌≤◌, Bool, true, false, ◌||◌, ◌&&◌, cond, eqb, List, [], ◌∷◌, ◌++◌, length, get_or, set, refl, sym, ap, ◌∙◌, arith, inl, inr, Some, None}
+use Rattle.std.proofs.Common.{◌≡◌, ◌≢◌, ℕ, ℤ, pos, ◌+◌, ◌≤◌, Bool, true, false, ◌||◌, ◌&&◌, cond}
+use Rattle.std.proofs.Common.{eqb, List, [], ◌∷◌, ◌++◌, length, get_or, set, refl, sym, ap, ◌∙◌}
+use Rattle.std.proofs.Common.{arith, inl, inr, Some, None}
 use Rattle.std.specs.Ordering.{eq_by_cmp}
 use Rattle.std.specs.List.{list_any}
 use Rattle.std.specs.FinMap as finite
@@ -9,7 +11,8 @@ use Rattle.bolt_base.specs.Change.{attr_at}
 use Rattle.bolt_base.specs.Graph.{Graph, Pair, pair_cmp, vertices}
 use Rattle.bolt_base.specs.Edits.{edited, after, one, bad_or, bad_from, bad, with_attr}
 use Rattle.bolt_base.specs.EditNames.{names_pair, names_vertex, bad_then}
-use Rattle.bolt_base.specs.LawsOfEdits.{UnnamedPairsStay, UnnamedAttrsStay, NoVertexIsLost, BadAppends}
+use Rattle.bolt_base.specs.LawsOfEdits.{UnnamedPairsStay, UnnamedAttrsStay, NoVertexIsLost}
+use Rattle.bolt_base.specs.LawsOfEdits.{BadAppends}
 use Rattle.bolt_base.specs.declared.edge.Edit.{Edit}
 use Rattle.bolt_base.specs.declared.edge.Edit.TheVariants.{Add, Cut, Attr}
 use Rattle.bolt_base.specs.declared.limits.Limits.{Limits}
@@ -23,7 +26,8 @@ or_false true b e = absurd (cc)
 or_false false b e = (refl, e)
 
 -- ---- weights
-pub pair_apart : (k : Pair) (s d : ℕ) → (eqb s k.0 && eqb d k.1) ≡ false → eq_by_cmp pair_cmp k (s, d) ≡ false
+pub pair_apart : (k : Pair) (s d : ℕ) → (eqb s k.0 && eqb d k.1) ≡ false
+    → eq_by_cmp pair_cmp k (s, d) ≡ false
 pair_apart k s d e = elim (cases_eq s k.0) [
   | inl same ↦ elim (cases_eq d k.1) [
     | inl last ↦ let all : (eqb s k.0 && eqb d k.1) ≡ true = λ j. eq-eqb s k.0 same j && eq-eqb d k.1 last j in absurd (let t : true ≡ false = sym all ∙ e in cc)
@@ -32,7 +36,8 @@ pair_apart k s d e = elim (cases_eq s k.0) [
   | inr other ↦ other_src k.0 k.1 s d (λ q. other (sym q))
 ]
 
-weight_stays : (g : Graph) (e : Edit) (k : Pair) → names_pair k e ≡ false → finite.get (edited g e).weights k ≡ finite.get g.weights k
+weight_stays : (g : Graph) (e : Edit) (k : Pair) → names_pair k e ≡ false
+    → finite.get (edited g e).weights k ≡ finite.get g.weights k
 weight_stays g (Add e) k h =
     finite.get-insert pairs_total g.weights (e.src, e.dst) e.weight k
     ∙ ap (λ b. cond b (Some e.weight) (finite.get g.weights k)) (pair_apart k e.src e.dst h)
@@ -47,7 +52,8 @@ unnamed_pairs_stay g (e ∷ es) k h =
     unnamed_pairs_stay (edited g e) es k parts.1 ∙ weight_stays g e k parts.0
 
 -- ---- attributes
-attr_apart : (attrs : List ℤ) (v u : ℕ) (a : ℤ) → v ≢ u → get_or (with_attr attrs v a) u (pos 0) ≡ get_or attrs u (pos 0)
+attr_apart : (attrs : List ℤ) (v u : ℕ) (a : ℤ) → v ≢ u
+    → get_or (with_attr attrs v a) u (pos 0) ≡ get_or attrs u (pos 0)
 attr_apart attrs v u a apart = elim (cases_eq v (length attrs)) [
   | inl last ↦ ap (λ b. get_or (cond b (attrs ++ a ∷ []) (set attrs v a)) u (pos 0)) (eq-eqb v (length attrs) last) ∙ elim (cases_lt u (length attrs)) [
     | inl below ↦ get_or_append_left attrs (a ∷ []) (pos 0) u below
@@ -56,13 +62,15 @@ attr_apart attrs v u a apart = elim (cases_eq v (length attrs)) [
   | inr other ↦ ap (λ b. get_or (cond b (attrs ++ a ∷ []) (set attrs v a)) u (pos 0)) (ne v (length attrs) other) ∙ get_or-set_other attrs v u a (pos 0) (λ q. apart (sym q))
 ]
   where
-    above : (u n : ℕ) → n ≤ u → u ≢ n → length (attrs ++ a ∷ []) ≡ n + 1 → length (attrs ++ a ∷ []) ≤ u
+    above : (u n : ℕ) → n ≤ u → u ≢ n → length (attrs ++ a ∷ []) ≡ n + 1
+        → length (attrs ++ a ∷ []) ≤ u
     above u n h apart long = elim (cases_lt n u) [ inl l ↦ omega arith | inr l ↦ absurd (apart (omega arith)) ]
 
     ne : (a b : ℕ) → a ≢ b → eqb a b ≡ false
     ne a b n = elim (eqb a b) as (λ t. eqb a b ≡ t → t ≡ false) [ true ↦ λ e. absurd (n (eqb-true a b e)) | false ↦ λ _. refl ] refl
 
-attr_stays : (g : Graph) (e : Edit) (u : ℕ) → names_vertex u e ≡ false → attr_at (edited g e) u ≡ attr_at g u
+attr_stays : (g : Graph) (e : Edit) (u : ℕ) → names_vertex u e ≡ false
+    → attr_at (edited g e) u ≡ attr_at g u
 attr_stays g (Add e) u h = refl
 attr_stays g (Cut s d) u h = refl
 attr_stays g (Attr v a) u h = attr_apart g.attrs v u a (eqb-false v u h)
@@ -85,7 +93,8 @@ no_vertex_lost g (e ∷ es) = let here = vertices_stay g e in let rest = no_vert
 
 -- ---- edits in two lists
 -- counted from n edits later, the first bad edit stands n places later
-pub bad_from-later : (l : Limits) (g : Graph) (n k : ℕ) (es : List Edit) → bad_from l g (n + k) es ≡ bad_then None n (bad_from l g k es)
+pub bad_from-later : (l : Limits) (g : Graph) (n k : ℕ) (es : List Edit)
+    → bad_from l g (n + k) es ≡ bad_then None n (bad_from l g k es)
 bad_from-later l g n k [] = refl
 bad_from-later l g n k (e ∷ es) =
     elim (one l g e) as (λ o. bad_or o (n + k) (bad_from l (edited g e) (n + k + 1) es) ≡ bad_then None n (bad_or o k (bad_from l (edited g e) (k + 1) es))) [

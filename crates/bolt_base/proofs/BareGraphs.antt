@@ -1,5 +1,6 @@
 -- A graph without edges is good, and how many edges a graph has.
-use Rattle.std.proofs.Common.{◌≡◌, ◌<◌, ◌≤◌, ℤ, List, [], ◌∷◌, length, filter, sym, ap, ◌∙◌, subst, arith}
+use Rattle.std.proofs.Common.{◌≡◌, ◌<◌, ◌≤◌, ℤ, List, [], ◌∷◌, length, filter, sym, ap, ◌∙◌, subst}
+use Rattle.std.proofs.Common.{arith}
 use Rattle.std.specs.FinMap as finite
 use Rattle.std.specs.List.{All}
 use Rattle.std.proofs.lemmas.List.{length-map}
@@ -15,7 +16,8 @@ no_items : (es : List Edge) → length es ≡ 0 → es ≡ []
 no_items [] e = λ _. []
 no_items (x ∷ es) e = absurd (omega arith)
 
-pub bare_good : (l : Limits) (attrs : List ℤ) → length attrs ≤ l.vertices → All (λ a. IsBetween l.attr_lo l.attr_hi a) attrs → IsGood l (graph_of attrs [])
+pub bare_good : (l : Limits) (attrs : List ℤ) → length attrs ≤ l.vertices
+    → All (λ a. IsBetween l.attr_lo l.attr_hi a) attrs → IsGood l (graph_of attrs [])
 bare_good l attrs few within =
     let none : edges (graph_of attrs []) ≡ [] = no_items (edges (graph_of attrs [])) (length-graph_of attrs [] tt) in
     record {

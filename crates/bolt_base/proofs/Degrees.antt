@@ -1,5 +1,6 @@
 -- All degrees sum to the number of edges.
-use Rattle.std.proofs.Common.{◌≡◌, ℕ, zero, suc, ◌+◌, ◌<◌, ◌≤◌, Bool, true, false, cond, eqb, List, [], ◌∷◌, filter, length, refl, ap, ◌∙◌, arith, inl, inr}
+use Rattle.std.proofs.Common.{◌≡◌, ℕ, zero, suc, ◌+◌, ◌<◌, ◌≤◌, Bool, true, false, cond, eqb, List}
+use Rattle.std.proofs.Common.{[], ◌∷◌, filter, length, refl, ap, ◌∙◌, arith, inl, inr}
 use Rattle.std.specs.Prelude.{sum_by}
 use Rattle.std.specs.List.{All, AllByRecursion, range_with_len}
 use Rattle.std.proofs.lemmas.Bool.{eq-eqb, ne_eqb, cases_eq}
@@ -8,7 +9,8 @@ use Rattle.std.proofs.lemmas.List.Sums.{sum_by-cons}
 use Rattle.bolt_base.specs.Graph.{Graph, edges, outdeg, indeg, vertices}
 use Rattle.bolt_base.specs.declared.edge.Edge.{Edge}
 
-pub sum_by-plus : (f g : ℕ → ℕ) (us : List ℕ) → sum_by (λ u. f u + g u) us ≡ sum_by f us + sum_by g us
+pub sum_by-plus : (f g : ℕ → ℕ) (us : List ℕ)
+    → sum_by (λ u. f u + g u) us ≡ sum_by f us + sum_by g us
 sum_by-plus f g [] = refl
 sum_by-plus f g (u ∷ us) =
     omega (arith, sum_by-cons (λ x. f x + g x) u us, sum_by-cons f u us, sum_by-cons g u us, sum_by-plus f g us)
@@ -23,7 +25,8 @@ module _ (key : Edge → ℕ) where
   with_key : ℕ → List Edge → ℕ
   with_key v es = length (filter (λ e. eqb (key e) v) es)
 
-  more : (v : ℕ) (e : Edge) (es : List Edge) → with_key v (e ∷ es) ≡ one_if (eqb (key e) v) + with_key v es
+  more : (v : ℕ) (e : Edge) (es : List Edge)
+      → with_key v (e ∷ es) ≡ one_if (eqb (key e) v) + with_key v es
   unfolding with_key one_if
   more v e es = elim (eqb (key e) v) as (λ b. length (cond b (e ∷ filter (λ x. eqb (key x) v) es) (filter (λ x. eqb (key x) v) es)) ≡ cond b 1 0 + length (filter (λ x. eqb (key x) v) es)) [ true ↦ omega arith | false ↦ omega arith ]
 
@@ -53,7 +56,8 @@ module _ (key : Edge → ℕ) where
   zeros [] = refl
   zeros (k ∷ ks) = let a = sum_by-cons (λ v. with_key v []) k ks in let r = zeros ks in omega arith
 
-  pub all_keys : (n : ℕ) (es : List Edge) → AllByRecursion (λ e. key e < n) es → sum_by (λ v. length (filter (λ e. eqb (key e) v) es)) (range_with_len 0 n) ≡ length es
+  pub all_keys : (n : ℕ) (es : List Edge) → AllByRecursion (λ e. key e < n) es
+      → sum_by (λ v. length (filter (λ e. eqb (key e) v) es)) (range_with_len 0 n) ≡ length es
   unfolding with_key
   all_keys n [] h = zeros (range_with_len 0 n)
   all_keys n (e ∷ es) h =

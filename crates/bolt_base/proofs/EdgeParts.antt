@@ -1,9 +1,14 @@
--- The edges of a graph are those that went and those that stayed, and those of the next one are those that came and those that stayed.
-use Rattle.std.proofs.Common.{◌≡◌, ◌+◌, Bool, true, false, not, ◌||◌, cond, eqb, List, [], ◌∷◌, ◌++◌, filter, fold, length, refl, sym, ap, ◌∙◌, arith}
+-- The edges of a graph are those that went and those that stayed, and those of the next one are
+-- those that came and those that stayed.
+use Rattle.std.proofs.Common.{◌≡◌, ◌+◌, Bool, true, false, not, ◌||◌, cond, eqb, List, [], ◌∷◌}
+use Rattle.std.proofs.Common.{◌++◌, filter, fold, length, refl, sym, ap, ◌∙◌, arith}
 use Rattle.std.specs.List.{list_any}
 use Rattle.bolt_base.specs.Change.{stays, removed, added, stayed}
 use Rattle.bolt_base.specs.Graph.{Graph, edges}
-use Rattle.bolt_base.specs.LawsOfChange.{AreParts, OldEdgesAreParts, NewEdgesAreParts, OldEdgesAreCounted, NewEdgesAreCounted, edge_stays, RemovedIsFilter, AddedIsFilter, StayedIsFilter, OutEdgesStay, StayedOutIsFilter}
+use Rattle.bolt_base.specs.LawsOfChange.{AreParts, OldEdgesAreParts, NewEdgesAreParts}
+use Rattle.bolt_base.specs.LawsOfChange.{OldEdgesAreCounted, NewEdgesAreCounted, edge_stays}
+use Rattle.bolt_base.specs.LawsOfChange.{RemovedIsFilter, AddedIsFilter, StayedIsFilter}
+use Rattle.bolt_base.specs.LawsOfChange.{OutEdgesStay, StayedOutIsFilter}
 use Rattle.bolt_base.specs.declared.edge.Edge.{Edge}
 use Rattle.bolt_base.proofs.EdgeMap.{edges_at-filter, edges_at-shared}
 
@@ -20,7 +25,8 @@ stayed-filter g h = edges_at-filter h (stays g h)
 pub stayed-filter_old : (g h : Graph) → stayed g h ≡ filter (edge_stays g h) (edges g)
 stayed-filter_old g h = sym (edges_at-shared g h) ∙ edges_at-filter g (stays g h)
 
-pub filter-swap : {X : Type 0} (p q : X → Bool) (xs : List X) → filter p (filter q xs) ≡ filter q (filter p xs)
+pub filter-swap : {X : Type 0} (p q : X → Bool) (xs : List X)
+    → filter p (filter q xs) ≡ filter q (filter p xs)
 filter-swap p q [] = refl
 filter-swap p q (x ∷ xs) =
     elim (p x) as (λ a. p x ≡ a → filter p (cond (q x) (x ∷ filter q xs) (filter q xs)) ≡ filter q (cond a (x ∷ filter p xs) (filter p xs))) [
@@ -36,12 +42,14 @@ filter-swap p q (x ∷ xs) =
 
 -- ---- a list in two parts
 module _ {X B : Type 0} (step : B → X → B) (swap : (b : B) (x y : X) → step (step b x) y ≡ step (step b y) x) where
-  fold-middle : (b : B) (x : X) (xs ys : List X) → fold step b (xs ++ x ∷ ys) ≡ fold step (step b x) (xs ++ ys)
+  fold-middle : (b : B) (x : X) (xs ys : List X)
+      → fold step b (xs ++ x ∷ ys) ≡ fold step (step b x) (xs ++ ys)
   fold-middle b x [] ys = refl
   fold-middle b x (z ∷ zs) ys = fold-middle (step b z) x zs ys ∙ ap (λ c. fold step c (zs ++ ys)) (swap b z x)
 
   -- those that fail a test and those that pass it, in place of all
-  pub fold-parts : (q : X → Bool) (b : B) (xs : List X) → fold step b xs ≡ fold step b (filter (λ x. not (q x)) xs ++ filter q xs)
+  pub fold-parts : (q : X → Bool) (b : B) (xs : List X)
+      → fold step b xs ≡ fold step b (filter (λ x. not (q x)) xs ++ filter q xs)
   fold-parts q b [] = refl
   fold-parts q b (x ∷ xs) =
       let fail : List X = filter (λ y. not (q y)) xs in
@@ -51,7 +59,8 @@ module _ {X B : Type 0} (step : B → X → B) (swap : (b : B) (x y : X) → ste
         | false ↦ fold-parts q (step b x) xs
       ]
 
-pub length-parts : {X : Type 0} (q : X → Bool) (xs : List X) → length xs ≡ length (filter (λ x. not (q x)) xs) + length (filter q xs)
+pub length-parts : {X : Type 0} (q : X → Bool) (xs : List X)
+    → length xs ≡ length (filter (λ x. not (q x)) xs) + length (filter q xs)
 length-parts q [] = refl
 length-parts {X} q (x ∷ xs) =
     let fail : List X = filter (λ y. not (q y)) xs in
@@ -63,7 +72,8 @@ length-parts {X} q (x ∷ xs) =
 
 -- ---- the edges of both graphs
 module _ (g h : Graph) (whole one : List Edge) (apart : one ≡ filter (λ e. not (edge_stays g h e)) whole) (same : stayed g h ≡ filter (edge_stays g h) whole) where
-  parts_passing : (p : Edge → Bool) → filter (λ e. not (edge_stays g h e)) (filter p whole) ++ filter (edge_stays g h) (filter p whole) ≡ filter p one ++ filter p (stayed g h)
+  parts_passing : (p : Edge → Bool)
+      → filter (λ e. not (edge_stays g h e)) (filter p whole) ++ filter (edge_stays g h) (filter p whole) ≡ filter p one ++ filter p (stayed g h)
   parts_passing p =
       (λ j. filter-swap (λ e. not (edge_stays g h e)) p whole j ++ filter-swap (edge_stays g h) p whole j)
       ∙ (λ j. filter p (sym apart j) ++ filter p (sym same j))
@@ -71,7 +81,8 @@ module _ (g h : Graph) (whole one : List Edge) (apart : one ≡ filter (λ e. no
   are_parts : (B : Type 0) → AreParts B whole one (stayed g h)
   are_parts B step start p swap = fold-parts step swap (edge_stays g h) start (filter p whole) ∙ ap (fold step start) (parts_passing p)
 
-  are_counted : (p : Edge → Bool) → length (filter p whole) ≡ length (filter p one) + length (filter p (stayed g h))
+  are_counted : (p : Edge → Bool)
+      → length (filter p whole) ≡ length (filter p one) + length (filter p (stayed g h))
   are_counted p =
       length-parts (edge_stays g h) (filter p whole)
       ∙ (λ j. length (filter-swap (λ e. not (edge_stays g h e)) p whole j) + length (filter-swap (edge_stays g h) p whole j))
@@ -98,7 +109,8 @@ or_false true b e = absurd (cc)
 or_false false b e = (refl, e)
 
 -- where none of those that fail passes r, those that pass are all that pass r
-all_pass : {X : Type 0} (r q : X → Bool) (xs : List X) → list_any r (filter (λ x. not (q x)) xs) ≡ false → filter r (filter q xs) ≡ filter r xs
+all_pass : {X : Type 0} (r q : X → Bool) (xs : List X)
+    → list_any r (filter (λ x. not (q x)) xs) ≡ false → filter r (filter q xs) ≡ filter r xs
 all_pass r q [] h = refl
 all_pass r q (x ∷ xs) h =
     elim (q x) as (λ b. list_any r (cond (not b) (x ∷ filter (λ y. not (q y)) xs) (filter (λ y. not (q y)) xs)) ≡ false

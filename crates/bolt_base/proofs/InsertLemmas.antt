@@ -1,5 +1,6 @@
 -- The lists of edges with one edge more, and with one less.
-use Rattle.std.proofs.Common.{◌≡◌, ℤ, Bool, true, false, cond, eqb, List, [], ◌∷◌, ◌++◌, map, filter, refl, sym, ap, ◌∙◌, subst, Some, None}
+use Rattle.std.proofs.Common.{◌≡◌, ℤ, Bool, true, false, cond, eqb, List, [], ◌∷◌, ◌++◌, map}
+use Rattle.std.proofs.Common.{filter, refl, sym, ap, ◌∙◌, subst, Some, None}
 use Rattle.std.specs.declared.cmp.Ordering.TheVariants.{Less, Equal, Greater}
 use Rattle.std.specs.Ordering.{is_eq}
 use Rattle.std.specs.FinMap as finite
@@ -15,7 +16,8 @@ use Rattle.bolt_base.specs.declared.edge.Edit.TheVariants.{Add, Cut}
 use Rattle.bolt_base.proofs.EdgeMap.{pairs_total}
 use Rattle.bolt_base.proofs.EditLemmas.{absent_after_cut, cut_restored}
 
-inserted_put : (k : Pair) (w : ℤ) (es : List (Pair × ℤ)) → find pair_cmp k es ≡ None → IsInserted (edge (k, w)) (map edge es) (map edge (put pair_cmp k w es))
+inserted_put : (k : Pair) (w : ℤ) (es : List (Pair × ℤ)) → find pair_cmp k es ≡ None
+    → IsInserted (edge (k, w)) (map edge es) (map edge (put pair_cmp k w es))
 inserted_put k w [] h = record { front = []; back = []; was = refl; is = refl }
 inserted_put k w (e ∷ es) h =
     elim (pair_cmp k e.0) as (λ r. cond (is_eq r) (Some e.1) (find pair_cmp k es) ≡ None
@@ -45,7 +47,8 @@ module _ (e : Edge) (old new : List Edge) (more : IsInserted e old new) (p : Edg
       kept_filter ∙ ap (λ b. filter p more.front ++ cond b (e ∷ filter p more.back) (filter p more.back)) f
       ∙ sym (ap (filter p) more.was ∙ filter-append p more.front more.back)
 
-one_more : (e : Edge) (lesser larger : Graph) → IsInserted e (edges lesser) (edges larger) → IsOneMore e lesser larger
+one_more : (e : Edge) (lesser larger : Graph) → IsInserted e (edges lesser) (edges larger)
+    → IsOneMore e lesser larger
 one_more e lesser larger more = record {
   all = more;
   out = inserted_filter e (edges lesser) (edges larger) more (λ x. eqb x.src e.src) (eq-eqb e.src e.src refl);

@@ -1,5 +1,7 @@
 -- Numbers modulo 2^64, and their sums.
-use Rattle.std.proofs.Common.{◌≡◌, Bool, ℕ, ℤ, pos, negsuc, suc, ◌+◌, ◌-◌, ◌*◌, ◌%◌, ◌^◌, ◌<◌, ◌+ℤ◌, eqb, List, [], ◌∷◌, ◌++◌, filter, fold, sym, ap, ◌∙◌, arith, refl, FitsSigned, w64}
+use Rattle.std.proofs.Common.{◌≡◌, Bool, ℕ, ℤ, pos, negsuc, suc, ◌+◌, ◌-◌, ◌*◌, ◌%◌, ◌^◌, ◌<◌, ◌+ℤ◌}
+use Rattle.std.proofs.Common.{eqb, List, [], ◌∷◌, ◌++◌, filter, fold, sym, ap, ◌∙◌, arith, refl}
+use Rattle.std.proofs.Common.{FitsSigned, w64}
 use Rattle.std.specs.Prelude.{unsigned_abs, sum_by}
 use Rattle.std.specs.Int.{cast_signed, int_wrap}
 use Rattle.std.proofs.lemmas.Int.{ints, int_rem_euclid_is, int_wrap_fits}
@@ -33,7 +35,8 @@ pub signed-residue : (z : ℤ) → FitsSigned w64 z → cast_signed w64 (residue
 unfolding int_wrap
 signed-residue z f = int_wrap_fits w64 z f
 
-pub sum_at-append : (w : ℕ) (a b : List Amount) → sum_at w (a ++ b) ≡ (sum_at w a + sum_at w b) % 2 ^ 64
+pub sum_at-append : (w : ℕ) (a b : List Amount)
+    → sum_at w (a ++ b) ≡ (sum_at w a + sum_at w b) % 2 ^ 64
 sum_at-append w a b =
     let at : Amount → Bool = λ x. eqb x.word w in
     let amount : Amount → ℕ = λ x. x.amount in
@@ -41,7 +44,8 @@ sum_at-append w a b =
     ∙ add-mod (sum_by amount (filter at a)) (sum_by amount (filter at b)) (2 ^ 64)
 
 -- many residues sum to the residue of the sum
-pub residues-total : {X : Type 0} (f : X → ℤ) (xs : List X) → sum_by (λ x. residue (f x)) xs % 2 ^ 64 ≡ residue (total f xs)
+pub residues-total : {X : Type 0} (f : X → ℤ) (xs : List X)
+    → sum_by (λ x. residue (f x)) xs % 2 ^ 64 ≡ residue (total f xs)
 residues-total f [] = refl
 residues-total f (x ∷ xs) =
     ap (λ n. n % 2 ^ 64) (sum_by-cons (λ y. residue (f y)) x xs)
@@ -49,7 +53,8 @@ residues-total f (x ∷ xs) =
     ∙ ap (λ n. (residue (f x) + n) % 2 ^ 64) (residues-total f xs)
     ∙ sym (residue-add (f x) (total f xs))
 
-pub residues-fold : (zs : List ℤ) → sum_by residue zs % 2 ^ 64 ≡ residue (fold (λ sum z. sum +ℤ z) (pos 0) zs)
+pub residues-fold : (zs : List ℤ)
+    → sum_by residue zs % 2 ^ 64 ≡ residue (fold (λ sum z. sum +ℤ z) (pos 0) zs)
 residues-fold zs =
     residues-total (λ z. z) zs
     ∙ ap residue (let e : total (λ z. z) zs ≡ pos 0 +ℤ total (λ z. z) zs = omega (arith, ints) in e ∙ sym (fold-total (λ z. z) (pos 0) zs))

@@ -1,5 +1,7 @@
 -- What sorted entries give is what a filter of a range of keys gives.
-use Rattle.std.proofs.Common.{◌≡◌, ◌≢◌, ℕ, zero, suc, ◌+◌, ◌<◌, ◌≤◌, Bool, true, false, cond, T, List, [], ◌∷◌, ◌++◌, Option, Some, None, map, filter, refl, sym, ap, ◌∙◌, arith, inl, inr}
+use Rattle.std.proofs.Common.{◌≡◌, ◌≢◌, ℕ, zero, suc, ◌+◌, ◌<◌, ◌≤◌, Bool, true, false, cond, T}
+use Rattle.std.proofs.Common.{List, [], ◌∷◌, ◌++◌, Option, Some, None, map, filter, refl, sym, ap}
+use Rattle.std.proofs.Common.{◌∙◌, arith, inl, inr}
 use Rattle.std.specs.List.{range_with_len}
 use Rattle.std.specs.Ordering.{nat_cmp, is_lt}
 use Rattle.std.specs.FinMap.Entries.{find, below_all, is_sorted}
@@ -27,15 +29,18 @@ from_below k (e ∷ es) h =
     let l = under k e.0 b.0 in
     (omega arith, from_below k es b.1)
 
-find_from : {X : Type 0} (k m : ℕ) (es : List (ℕ × X)) → k < m → From m es → find nat_cmp k es ≡ None
+find_from : {X : Type 0} (k m : ℕ) (es : List (ℕ × X)) → k < m → From m es
+    → find nat_cmp k es ≡ None
 find_from k m [] l h = refl
 find_from k m (e ∷ es) l h = let a = h.0 in ap (λ t. cond t (Some e.1) (find nat_cmp k es)) (untied k e.0 (λ q. omega arith)) ∙ find_from k m es l h.1
 
 -- an entry past the first one is found behind it
-found_behind : {X : Type 0} (v : ℕ) (e : ℕ × X) (es : List (ℕ × X)) → v ≢ e.0 → find nat_cmp v (e ∷ es) ≡ find nat_cmp v es
+found_behind : {X : Type 0} (v : ℕ) (e : ℕ × X) (es : List (ℕ × X)) → v ≢ e.0
+    → find nat_cmp v (e ∷ es) ≡ find nat_cmp v es
 found_behind v e es n = ap (λ t. cond t (Some e.1) (find nat_cmp v es)) (untied v e.0 n)
 
-found_first : {X : Type 0} (v : ℕ) (e : ℕ × X) (es : List (ℕ × X)) → v ≡ e.0 → find nat_cmp v (e ∷ es) ≡ Some e.1
+found_first : {X : Type 0} (v : ℕ) (e : ℕ × X) (es : List (ℕ × X)) → v ≡ e.0
+    → find nat_cmp v (e ∷ es) ≡ Some e.1
 found_first v e es s = ap (λ t. cond t (Some e.1) (find nat_cmp v es)) (tied v e.0 s)
 
 -- what the entry of a key gives, if there is one
@@ -47,7 +52,8 @@ abbrev pub one_if : {Y : Type 0} → Bool → Y → List Y
 one_if b y = cond b (y ∷ []) []
 
 module _ {X Y : Type 0} (pick : ℕ → X → List Y) where
-  none_past : (m : ℕ) (es : List (ℕ × X)) → T (is_sorted nat_cmp es) → From m es → ((v : ℕ) (x : X) → m ≤ v → find nat_cmp v es ≡ Some x → pick v x ≡ []) → picks pick es ≡ []
+  none_past : (m : ℕ) (es : List (ℕ × X)) → T (is_sorted nat_cmp es) → From m es
+      → ((v : ℕ) (x : X) → m ≤ v → find nat_cmp v es ≡ Some x → pick v x ≡ []) → picks pick es ≡ []
   none_past m [] s h past = refl
   none_past m (e ∷ es) s h past =
       let b = both (below_all nat_cmp e.0 es) (is_sorted nat_cmp es) s in
@@ -57,7 +63,8 @@ module _ {X Y : Type 0} (pick : ℕ → X → List Y) where
       ∙ none_past (e.0 + 1) es b.1 behind (λ v x l f. past v x (omega arith) (found_behind v e es (λ q. omega arith) ∙ f))
 
   module _ (f : ℕ → Y) (p : ℕ → Bool) where
-    with_first : (m : ℕ) (xs : List ℕ) → one_if (p m) (f m) ++ map f (filter p xs) ≡ map f (filter p (m ∷ xs))
+    with_first : (m : ℕ) (xs : List ℕ)
+        → one_if (p m) (f m) ++ map f (filter p xs) ≡ map f (filter p (m ∷ xs))
     with_first m xs = elim (p m) as (λ b. one_if b (f m) ++ map f (filter p xs) ≡ map f (cond b (m ∷ filter p xs) (filter p xs))) [ true ↦ refl | false ↦ refl ]
 
     pub rising : (n m : ℕ) (es : List (ℕ × X)) → T (is_sorted nat_cmp es) → From m es

@@ -1,5 +1,6 @@
 -- The entries of a vertex in rows, what is kept of them, and rows made of their entries.
-use Rattle.std.proofs.Common.{◌≡◌, ℕ, ◌+◌, ◌<◌, Bool, true, false, List, [], ◌∷◌, length, get_or, map, drop, refl, sym, ap, ◌∙◌, arith, length-take, length-drop}
+use Rattle.std.proofs.Common.{◌≡◌, ℕ, ◌+◌, ◌<◌, Bool, true, false, List, [], ◌∷◌, length, get_or}
+use Rattle.std.proofs.Common.{map, drop, refl, sym, ap, ◌∙◌, arith, length-take, length-drop}
 use Rattle.std.specs.Prelude.{sum_by}
 use Rattle.std.specs.List.{range_with_len}
 use Rattle.std.proofs.lemmas.List.{ext_get_or, get_or-map, length-map}
@@ -7,7 +8,8 @@ use Rattle.std.proofs.lemmas.List.Elements.{All-get_or, All-from_get_or}
 use Rattle.std.proofs.lemmas.List.FromFn.{get_or-map-range_with_len, length-map-range_with_len}
 use Rattle.std.proofs.lemmas.List.Sums.{sum_by-cons}
 use Rattle.bolt_base.specs.Keep.{Entry, Row, no_entry, column, keep, stored, read}
-use Rattle.bolt_base.specs.LawsOfRows.{ColumnHasLength, ColumnHasEntries, SameEntriesAreSameRows, KeepIsBelow, StoredHaveLength, StoredSumToKept}
+use Rattle.bolt_base.specs.LawsOfRows.{ColumnHasLength, ColumnHasEntries, SameEntriesAreSameRows}
+use Rattle.bolt_base.specs.LawsOfRows.{KeepIsBelow, StoredHaveLength, StoredSumToKept}
 use Rattle.bolt_base.specs.RowShape.{AreFull}
 use Rattle.bolt_base.specs.RowTable.{entry_at}
 use Rattle.bolt_base.proofs.KeepLemmas.{rest_below, read_stored}
@@ -35,10 +37,12 @@ same_rows n a b long full_a full_b same = ext_get_or [] a b long (λ i h.
 
 -- ---- rows that are made of their entries
 module _ (f : ℕ → ℕ → Entry) (n m : ℕ) where
-  pub made_row : (i : ℕ) → i < m → get_or (map (λ i. map (f i) (range_with_len 0 n)) (range_with_len 0 m)) i [] ≡ map (f i) (range_with_len 0 n)
+  pub made_row : (i : ℕ) → i < m
+      → get_or (map (λ i. map (f i) (range_with_len 0 n)) (range_with_len 0 m)) i [] ≡ map (f i) (range_with_len 0 n)
   made_row i h = get_or-map-range_with_len (λ i. map (f i) (range_with_len 0 n)) 0 m i i [] h (omega arith)
 
-  pub made_at : (i v : ℕ) → i < m → v < n → entry_at (map (λ i. map (f i) (range_with_len 0 n)) (range_with_len 0 m)) i v ≡ f i v
+  pub made_at : (i v : ℕ) → i < m → v < n
+      → entry_at (map (λ i. map (f i) (range_with_len 0 n)) (range_with_len 0 m)) i v ≡ f i v
   made_at i v h l = ap (λ row. get_or row v no_entry) (made_row i h) ∙ get_or-map-range_with_len (f i) 0 n v v no_entry l (omega arith)
 
   pub made_full : AreFull n (map (λ i. map (f i) (range_with_len 0 n)) (range_with_len 0 m))

@@ -1,5 +1,6 @@
 -- Rows that flat numbers stand for are rectangular; entries of rectangular rows.
-use Rattle.std.proofs.Common.{◌≡◌, ℕ, ℤ, zero, suc, ◌*◌, ◌<◌, List, [], length, get_or, drop, arith, length-take, length-drop, suc-mul}
+use Rattle.std.proofs.Common.{◌≡◌, ℕ, ℤ, zero, suc, ◌*◌, ◌<◌, List, [], length, get_or, drop, arith}
+use Rattle.std.proofs.Common.{length-take, length-drop, suc-mul}
 use Rattle.std.specs.List.{All, AllByRecursion}
 use Rattle.std.proofs.lemmas.List.{length-map}
 use Rattle.std.proofs.lemmas.List.Elements.{All-get_or, All-map, All-from_recursion}

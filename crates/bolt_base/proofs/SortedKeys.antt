@@ -1,5 +1,6 @@
 -- Entries that rise by their number.
-use Rattle.std.proofs.Common.{◌≡◌, ◌≢◌, ℕ, ◌<◌, Bool, true, false, cond, T, List, [], ◌∷◌, ◌&&◌, Some, None, refl, ap, ◌∙◌, subst, arith, sym}
+use Rattle.std.proofs.Common.{◌≡◌, ◌≢◌, ℕ, ◌<◌, Bool, true, false, cond, T, List, [], ◌∷◌, ◌&&◌}
+use Rattle.std.proofs.Common.{Some, None, refl, ap, ◌∙◌, subst, arith, sym}
 use Rattle.std.specs.Ordering.{nat_cmp, is_eq, is_lt, eq_by_cmp}
 use Rattle.std.specs.declared.cmp.Ordering.TheVariants.{Less, Equal, Greater}
 use Rattle.std.specs.List.{AllByRecursion}
@@ -49,21 +50,25 @@ under a b h = elim (nat_cmp a b) as (λ r. nat_cmp a b ≡ r → T (is_lt r) →
 ] refl h
 
 -- ---- sorted entries
-pub find_lookup : {X : Type 0} (q : ℕ) (es : List (ℕ × X)) → find nat_cmp q es ≡ lookup (is_at (nat_cmp q)) es
+pub find_lookup : {X : Type 0} (q : ℕ) (es : List (ℕ × X))
+    → find nat_cmp q es ≡ lookup (is_at (nat_cmp q)) es
 find_lookup q [] = refl
 find_lookup q (e ∷ es) = ap (λ o. cond (eq_by_cmp nat_cmp q e.0) (Some e.1) o) (find_lookup q es)
 
-below : {X : Type 0} (k : ℕ) (es : List (ℕ × X)) → AllByRecursion (λ y. nat_cmp k y ≡ Less) (keys_of es) → T (below_all nat_cmp k es)
+below : {X : Type 0} (k : ℕ) (es : List (ℕ × X))
+    → AllByRecursion (λ y. nat_cmp k y ≡ Less) (keys_of es) → T (below_all nat_cmp k es)
 below k [] h = tt
 below k (e ∷ es) h = join (is_lt (nat_cmp k e.0)) (below_all nat_cmp k es) (subst (λ r. T (is_lt r)) (sym h.0) tt) (below k es h.1)
 
-pub ordered_sorted : {X : Type 0} (es : List (ℕ × X)) → IsStrictlySortedBy nat_cmp (keys_of es) → T (is_sorted nat_cmp es)
+pub ordered_sorted : {X : Type 0} (es : List (ℕ × X)) → IsStrictlySortedBy nat_cmp (keys_of es)
+    → T (is_sorted nat_cmp es)
 unfolding IsStrictlySortedBy
 ordered_sorted [] h = tt
 ordered_sorted (e ∷ es) h = join (below_all nat_cmp e.0 es) (is_sorted nat_cmp es) (below e.0 es h.0) (ordered_sorted es h.1)
 
 -- a number that all entries are above has none
-pub not_below : {X : Type 0} (k q : ℕ) (ps : List (ℕ × X)) → eq_by_cmp nat_cmp q k ≡ true → T (below_all nat_cmp k ps) → find nat_cmp q ps ≡ None
+pub not_below : {X : Type 0} (k q : ℕ) (ps : List (ℕ × X)) → eq_by_cmp nat_cmp q k ≡ true
+    → T (below_all nat_cmp k ps) → find nat_cmp q ps ≡ None
 not_below k q [] e h = refl
 not_below k q (p ∷ ps) e h =
     let b = both (is_lt (nat_cmp k p.0)) (below_all nat_cmp k ps) h in

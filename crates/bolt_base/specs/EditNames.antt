@@ -1,5 +1,6 @@
 -- What an edit names, and a list of edges with one more.
-use Rattle.std.specs.Prelude.{◌≡◌, ◌≢◌, ℕ, ◌+◌, ◌==◌, Bool, false, ◌&&◌, List, ◌∷◌, ◌++◌, Option, Some, None}
+use Rattle.std.specs.Prelude.{◌≡◌, ◌≢◌, ℕ, ◌+◌, ◌==◌, Bool, false, ◌&&◌, List, ◌∷◌, ◌++◌, Option}
+use Rattle.std.specs.Prelude.{Some, None}
 use Rattle.bolt_base.specs.Graph.{Graph, Pair, edges, out_edges, in_edges}
 use Rattle.bolt_base.specs.declared.edge.Edge.{Edge}
 use Rattle.bolt_base.specs.declared.edge.Edit.{Edit}
@@ -31,7 +32,8 @@ pub record IsInserted (e : Edge) (old new : List Edge) : Type 0 where
   pub was : old ≡ front ++ back
   pub is : new ≡ front ++ e ∷ back
 
--- the larger graph has the edge more, out of its source and into its destination, and the same edges otherwise
+-- the larger graph has the edge more, out of its source and into its destination, and the same
+-- edges otherwise
 pub record IsOneMore (e : Edge) (lesser larger : Graph) : Type 0 where
   pub all : IsInserted e (edges lesser) (edges larger)
   pub out : IsInserted e (out_edges lesser e.src) (out_edges larger e.src)

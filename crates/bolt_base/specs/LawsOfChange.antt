@@ -1,9 +1,11 @@
 -- Laws of what changed from a graph to another one, each the clause of a public function.
-use Rattle.std.specs.Prelude.{◌≡◌, ℕ, ℤ, ◌+◌, Bool, false, not, ◌==◌, List, ◌++◌, map, filter, fold, length, sum_by, Option}
+use Rattle.std.specs.Prelude.{◌≡◌, ℕ, ℤ, ◌+◌, Bool, false, not, ◌==◌, List, ◌++◌, map, filter, fold}
+use Rattle.std.specs.Prelude.{length, sum_by, Option}
 use Rattle.std.specs.FinMap as finite
 use Rattle.std.specs.List.{range_with_len}
 use Rattle.bolt_base.specs.Change.{stays, removed, added, stayed, is_source}
-use Rattle.bolt_base.specs.Graph.{Graph, Pair, IsGood, edge, edges, out_edges, outdeg, indeg, vertices}
+use Rattle.bolt_base.specs.Graph.{Graph, Pair, IsGood, edge, edges, out_edges, outdeg, indeg}
+use Rattle.bolt_base.specs.Graph.{vertices}
 use Rattle.bolt_base.specs.TouchedPairs.{picked, gone, come, AreTouched}
 use Rattle.bolt_base.specs.declared.edge.Edge.{Edge}
 use Rattle.bolt_base.specs.declared.limits.Limits.{Limits}
@@ -12,7 +14,8 @@ use Rattle.bolt_base.specs.declared.limits.Limits.{Limits}
 abbrev pub Commutes : {B : Type 0} → (B → Edge → B) → Type 0
 Commutes {B} step = (b : B) (x y : Edge) → step (step b x) y ≡ step (step b y) x
 
--- what some edges come to is what two other lists come to: by any fold whose steps commute, over those that pass a test
+-- what some edges come to is what two other lists come to: by any fold whose steps commute, over
+-- those that pass a test
 abbrev pub AreParts : Type 0 → List Edge → List Edge → List Edge → Type 0
 AreParts B whole one other = (step : B → Edge → B) (start : B) (p : Edge → Bool) → Commutes step
     → fold step start (filter p whole) ≡ fold step start (filter p one ++ filter p other)
@@ -62,13 +65,16 @@ EdgesAreWeights = (g : Graph) → length (edges g) ≡ finite.len g.weights
 
 -- all degrees sum to the number of edges
 abbrev pub OutDegreesSum : Type 0
-OutDegreesSum = (l : Limits) (g : Graph) → IsGood l g → sum_by (outdeg g) (range_with_len 0 (vertices g)) ≡ length (edges g)
+OutDegreesSum = (l : Limits) (g : Graph) → IsGood l g
+    → sum_by (outdeg g) (range_with_len 0 (vertices g)) ≡ length (edges g)
 
 abbrev pub InDegreesSum : Type 0
-InDegreesSum = (l : Limits) (g : Graph) → IsGood l g → sum_by (indeg g) (range_with_len 0 (vertices g)) ≡ length (edges g)
+InDegreesSum = (l : Limits) (g : Graph) → IsGood l g
+    → sum_by (indeg g) (range_with_len 0 (vertices g)) ≡ length (edges g)
 
 -- ---- touched pairs
--- where these pairs, with their new weights, are all in which h may differ from g, they tell what was removed and added
+-- where these pairs, with their new weights, are all in which h may differ from g, they tell what
+-- was removed and added
 abbrev pub TouchedTellRemoved : Type 0
 TouchedTellRemoved = (touched : List (Pair × Option ℤ)) (g h : Graph) → AreTouched touched g h
     → removed g h ≡ map edge (picked (gone g) touched)

@@ -13,7 +13,8 @@ use Rattle.bolt_base.specs.declared.limits.Limits.{Limits}
 
 -- a pair that no edit names keeps its weight, or stays without one
 abbrev pub UnnamedPairsStay : Type 0
-UnnamedPairsStay = (g : Graph) (edits : List Edit) (k : Pair) → list_any (names_pair k) edits ≡ false
+UnnamedPairsStay = (g : Graph) (edits : List Edit) (k : Pair)
+    → list_any (names_pair k) edits ≡ false
     → finite.get (after g edits).weights k ≡ finite.get g.weights k
 
 -- a vertex that no edit names keeps its attribute
@@ -29,14 +30,16 @@ NoVertexIsLost = (g : Graph) (edits : List Edit) → vertices g ≤ vertices (af
 abbrev pub AfterAppends : Type 0
 AfterAppends = (g : Graph) (xs ys : List Edit) → after g (xs ++ ys) ≡ after (after g xs) ys
 
--- the first bad edit of two lists is that of the first one, or else that of the second one, counted on
+-- the first bad edit of two lists is that of the first one, or else that of the second one, counted
+-- on
 abbrev pub BadAppends : Type 0
 BadAppends = (l : Limits) (g : Graph) (xs ys : List Edit)
     → bad l g (xs ++ ys) ≡ bad_then (bad l g xs) (length xs) (bad l (after g xs) ys)
 
 -- an addition at a pair without an edge adds this edge alone to the lists of edges
 abbrev pub AdditionIsOneMore : Type 0
-AdditionIsOneMore = (g : Graph) (e : Edge) → finite.get g.weights (e.src, e.dst) ≡ None → IsOneMore e g (edited g (Add e))
+AdditionIsOneMore = (g : Graph) (e : Edge) → finite.get g.weights (e.src, e.dst) ≡ None
+    → IsOneMore e g (edited g (Add e))
 
 -- a cut takes this edge alone out of them
 abbrev pub CutIsOneLess : Type 0

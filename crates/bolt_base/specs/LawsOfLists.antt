@@ -1,5 +1,6 @@
 -- Laws of plain lists of edges and their graphs, each the clause of a public function.
-use Rattle.std.specs.Prelude.{◌≡◌, ℕ, ℤ, ◌+◌, ◌≤◌, ◌==◌, Bool, List, [], ◌∷◌, ◌++◌, filter, fold, length, None, if◌then◌else◌}
+use Rattle.std.specs.Prelude.{◌≡◌, ℕ, ℤ, ◌+◌, ◌≤◌, ◌==◌, Bool, List, [], ◌∷◌, ◌++◌, filter, fold}
+use Rattle.std.specs.Prelude.{length, None, if◌then◌else◌}
 use Rattle.std.specs.FinMap as finite
 use Rattle.std.specs.FinMap.{IsAntisymmetric}
 use Rattle.std.specs.Cmp.{IsTotalOrder}
@@ -22,7 +23,8 @@ PairsAreToldApart = IsAntisymmetric pair_cmp
 
 -- a scan finds the weight that the graph has
 abbrev pub ScansFindWeights : Type 0
-ScansFindWeights = (attrs : List ℤ) (es : List Edge) (k : Pair) → finite.get (graph_of attrs es).weights k ≡ found es k
+ScansFindWeights = (attrs : List ℤ) (es : List Edge) (k : Pair)
+    → finite.get (graph_of attrs es).weights k ≡ found es k
 
 -- an edge more at the end of the list is an addition to its graph
 abbrev pub PushIsAddition : Type 0
@@ -30,7 +32,8 @@ PushIsAddition = (attrs : List ℤ) (es : List Edge) (e : Edge) → found es (e.
     → graph_of attrs (es ++ e ∷ []) ≡ edited (graph_of attrs es) (Add e)
 
 abbrev pub PushStaysApart : Type 0
-PushStaysApart = (es : List Edge) (e : Edge) → AreApart es → found es (e.src, e.dst) ≡ None → AreApart (es ++ e ∷ [])
+PushStaysApart = (es : List Edge) (e : Edge) → AreApart es → found es (e.src, e.dst) ≡ None
+    → AreApart (es ++ e ∷ [])
 
 -- the list and its graph have as many edges that pass a test
 abbrev pub ListIsCounted : Type 0
@@ -38,17 +41,21 @@ ListIsCounted = (attrs : List ℤ) (es : List Edge) (p : Edge → Bool) → AreA
     → length (filter p (edges (graph_of attrs es))) ≡ length (filter p es)
 
 abbrev pub ListHasLength : Type 0
-ListHasLength = (attrs : List ℤ) (es : List Edge) → AreApart es → length (edges (graph_of attrs es)) ≡ length es
+ListHasLength = (attrs : List ℤ) (es : List Edge) → AreApart es
+    → length (edges (graph_of attrs es)) ≡ length es
 
 -- and any fold over them whose steps commute comes to the same
 abbrev pub ListIsFolded : Type 0 → Type 0
-ListIsFolded B = (step : B → Edge → B) (start : B) (p : Edge → Bool) (attrs : List ℤ) (es : List Edge)
-    → Commutes step → AreApart es → fold step start (filter p (edges (graph_of attrs es))) ≡ fold step start (filter p es)
+ListIsFolded B =
+    (step : B → Edge → B) (start : B) (p : Edge → Bool) (attrs : List ℤ) (es : List Edge)
+    → Commutes step → AreApart es
+    → fold step start (filter p (edges (graph_of attrs es))) ≡ fold step start (filter p es)
 
 -- ---- single edits
 -- what an addition without a cause finds
 abbrev pub AdditionsAreGood : Type 0
-AdditionsAreGood = (l : Limits) (g : Graph) (e : Edge) → one l g (Add e) ≡ None → IsGoodAddition l g e
+AdditionsAreGood = (l : Limits) (g : Graph) (e : Edge) → one l g (Add e) ≡ None
+    → IsGoodAddition l g e
 
 -- and what a cut without a cause finds
 abbrev pub CutsAreGood : Type 0
@@ -61,7 +68,8 @@ pub record IsCountedMore (g h : Graph) (e : Edge) : Type 0 where
   pub into : (v : ℕ) → indeg h v ≡ (if e.dst == v then 1 else 0) + indeg g v
 
 abbrev pub AdditionIsCounted : Type 0
-AdditionIsCounted = (g : Graph) (e : Edge) → finite.get g.weights (e.src, e.dst) ≡ None → IsCountedMore g (edited g (Add e)) e
+AdditionIsCounted = (g : Graph) (e : Edge) → finite.get g.weights (e.src, e.dst) ≡ None
+    → IsCountedMore g (edited g (Add e)) e
 
 -- a graph without edges is good where its attributes are
 abbrev pub BareIsGood : Type 0

@@ -20,7 +20,8 @@ SameEntriesAreSameRows = (n : ℕ) (a b : List Row) → length a ≡ length b �
 
 -- fewer entries are kept than there are, as many as `keep` says
 abbrev pub KeepIsBelow : Type 0
-KeepIsBelow = (vertical : Bool) (entries : List Entry) → 0 < length entries → keep vertical entries < length entries
+KeepIsBelow = (vertical : Bool) (entries : List Entry) → 0 < length entries
+    → keep vertical entries < length entries
 
 abbrev pub StoredHaveLength : Type 0
 StoredHaveLength = (vertical : Bool) (entries : List Entry) → 0 < length entries
@@ -29,4 +30,5 @@ StoredHaveLength = (vertical : Bool) (entries : List Entry) → 0 < length entri
 -- the stored entries of n vertices are `kept` together
 abbrev pub StoredSumToKept : Type 0
 StoredSumToKept = (vertical : Bool) (rows : List Row) (n : ℕ) → 0 < length rows
-    → sum_by (λ track. length track) (map (λ v. stored vertical (column rows v)) (range_with_len 0 n)) ≡ kept vertical rows n
+    → sum_by (λ track. length track) (map (λ v. stored vertical (column rows v)) (range_with_len 0 n))
+    ≡ kept vertical rows n

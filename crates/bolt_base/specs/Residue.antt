@@ -1,5 +1,6 @@
 -- Amounts modulo 2^64, and what they sum to.
-use Rattle.std.specs.Prelude.{ℕ, ℤ, pos, ◌+◌, ◌*◌, ◌^◌, ◌%◌, ◌==◌, List, filter, sum_by, unsigned_abs}
+use Rattle.std.specs.Prelude.{ℕ, ℤ, pos, ◌+◌, ◌*◌, ◌^◌, ◌%◌, ◌==◌, List, filter, sum_by}
+use Rattle.std.specs.Prelude.{unsigned_abs}
 use Rattle.std.specs.Int.{int_rem_euclid}
 
 -- the number modulo 2^64

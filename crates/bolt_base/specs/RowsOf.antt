@@ -10,7 +10,11 @@ abbrev pub row_of : ℕ → ℕ → FlatRow → Row
 row_of lanes vertices row = entries_of lanes vertices row.aggs.items row.vals.items
 
 abbrev pub rows_of : Inside → RowTable
-rows_of r = record { vertices = r.vertices; lanes = r.lanes; rows = map (row_of r.lanes r.vertices) r.rows.items }
+rows_of r = record {
+  vertices = r.vertices;
+  lanes = r.lanes;
+  rows = map (row_of r.lanes r.vertices) r.rows.items;
+}
 
 -- a number for each lane of each vertex, twice
 pub record IsFlat (lanes vertices : ℕ) (row : FlatRow) : Type 0 where

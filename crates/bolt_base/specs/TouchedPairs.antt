@@ -1,4 +1,5 @@
--- The pairs that edits touch, each with the weight that it has then, and the edges that come and go by that.
+-- The pairs that edits touch, each with the weight that it has then, and the edges that come and go
+-- by that.
 use Rattle.std.specs.Prelude.{◌≡◌, ℤ, List, T, Option, Some, None, if◌then◌else◌}
 use Rattle.std.specs.List.{filter_map}
 use Rattle.std.specs.FinMap as finite
@@ -36,4 +37,5 @@ come g q w = coming (finite.get g.weights q) w
 -- these pairs, in order, with their states in h, are all in which h may differ from g
 pub record AreTouched (touched : List (Pair × Option ℤ)) (g h : Graph) : Type 0 where
   pub sorted : T (is_sorted pair_cmp touched)
-  pub told : (q : Pair) → finite.get h.weights q ≡ over (find pair_cmp q touched) (finite.get g.weights q)
+  pub told : (q : Pair)
+      → finite.get h.weights q ≡ over (find pair_cmp q touched) (finite.get g.weights q)

@@ -23,6 +23,7 @@ impl Items<u8> {
         ensures err { OnErr result (self.new ≡ self.old) }
     {
         let mut buffer = Buffer::new();
-        self.extend_from_slice(buffer.format(number).as_bytes())
+        let digits = buffer.format(number);
+        self.extend_from_slice(digits.as_bytes())
     }
 }

@@ -8,7 +8,8 @@ use crate::memory::Memory;
 use std::alloc::Global;
 use std::marker::Model;
 
-/// A graph as a list of attributes, one for each vertex, and a list of edges in any order, no two with the same ends.
+/// A graph as a list of attributes, one for each vertex, and a list of edges in any order, no two
+/// with the same ends.
 #[derive(Debug, Drop)]
 pub struct GraphData {
     attrs: AttrList,

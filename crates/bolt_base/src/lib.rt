@@ -1,4 +1,5 @@
-//! The types and definitions that every crate of bolt shares: graphs, edits, the lanes of a value, limits, meters and lists.
+//! The types and definitions that every crate of bolt shares: graphs, edits, the lanes of a value,
+//! limits, meters and lists.
 #![tactic(auto)]
 
 mod answer;

@@ -13,7 +13,8 @@ pub fn pairs_are_ordered()
     ensures apart { PairsAreToldApart }
 {}
 
-/// A plain list of edges has the weights, the numbers and the folds of its graph, and grows with it.
+/// A plain list of edges has the weights, the numbers and the folds of its graph, and grows with
+/// it.
 pub fn lists_are_graphs<B>()
     ensures weights { ScansFindWeights }
     ensures push { PushIsAddition }

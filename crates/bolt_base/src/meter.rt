@@ -3,7 +3,8 @@ ghost use Rattle.std.specs.Prelude.{◌≡◌, ℕ, ◌+◌, ◌<◌, ◌≤◌,
 
 use std::marker::Model;
 
-/// A count of reads, and a number of units, at least 1, that splits share. A meter can't be dropped.
+/// A count of reads, and a number of units, at least 1, that splits share. A meter can't be
+/// dropped.
 pub trait Meter: Sized {
     /// How many reads were counted.
     ghost counted: { Self → ℕ };

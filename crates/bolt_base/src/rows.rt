@@ -1,5 +1,6 @@
 // The rows of a run, as flat numbers.
-ghost use Rattle.std.specs.Prelude.{◌≡◌, ℕ, pos, ◌<◌, ◌≤◌, ◌^◌, ◌++◌, ◌∷◌, [], length, slice_index_or, IfOk, OnOk, OnErr};
+ghost use Rattle.std.specs.Prelude.{◌≡◌, ℕ, pos, ◌<◌, ◌≤◌, ◌^◌, ◌++◌, ◌∷◌, [], length};
+ghost use Rattle.std.specs.Prelude.{slice_index_or, IfOk, OnOk, OnErr};
 ghost use Rattle.std.specs.List.{All, flat_map, zip};
 ghost use Rattle.bolt_base.specs.RowTable.{entry_at};
 ghost use Rattle.bolt_base.specs.RowShape.{AreRectangular};
@@ -12,14 +13,16 @@ use std::marker::Model;
 /// The most rows of a run: those of the iterations 0 to 64.
 pub const MOST_ROWS: u32 = 65;
 
-// The numbers of a row: those of the aggregates, vertex by vertex and lane by lane, and those of the values.
+// The numbers of a row: those of the aggregates, vertex by vertex and lane by lane, and those of
+// the values.
 #[derive(Debug, Drop)]
 struct FlatRow {
     aggs: Vec<i64>,
     vals: Vec<i64>,
 }
 
-/// The rows of a run from iteration 0 on, at most 65, each with an entry for each vertex: an aggregate and a value.
+/// The rows of a run from iteration 0 on, at most 65, each with an entry for each vertex: an
+/// aggregate and a value.
 #[derive(Debug, Drop)]
 pub struct Rows {
     vertices: u32,
@@ -103,14 +106,18 @@ impl Rows {
         row.vals[v as usize * self.lanes as usize + lane as usize]
     }
 
-    /// Appends the row of these aggregates and values, one of each for each vertex. Nothing changes after `Memory`.
+    /// Appends the row of these aggregates and values, one of each for each vertex. Nothing changes
+    /// after `Memory`.
     pub fn add_row(&mut self, aggs: &[Lanes], vals: &[Lanes]) -> Result<(), Memory>
         requires few { length self.old.rows < 65 }
         requires aggs { length aggs.now ≡ self.old.vertices }
         requires vals { length vals.now ≡ self.old.vertices }
         requires agg_lanes { All (λ agg. length agg ≡ self.old.lanes) aggs.now }
         requires val_lanes { All (λ val. length val ≡ self.old.lanes) vals.now }
-        ensures ok { OnOk result (self.new ≡ record self.old { rows = self.old.rows ++ zip aggs.now vals.now ∷ [] }) }
+        ensures ok { OnOk result (self.new ≡ record self.old {
+          rows = self.old.rows
+              ++ zip aggs.now vals.now ∷ [];
+        }) }
         ensures err { OnErr result (self.new ≡ self.old) }
     {
         let alloc = *self.rows.allocator();

@@ -9,7 +9,8 @@ use std::mem;
 #[cfg(test)]
 mod tests;
 
-/// Puts each item in its place, in order, and leaves in its stead what stood there. Takes no memory.
+/// Puts each item in its place, in order, and leaves in its stead what stood there. Takes no
+/// memory.
 pub fn swap_in<X>(all: &mut Vec<X>, items: &mut Vec<(u32, X)>)
     requires { AreInside (length all.old.items) items.old.items }
     ensures put { all.new.items ≡ put_all items.old.items all.old.items }

@@ -1,4 +1,5 @@
-use Rattle.bolt_base.proofs.EdgeParts.{removed-filter, added-filter, stayed-filter, old_edges_counted, new_edges_counted}
+use Rattle.bolt_base.proofs.EdgeParts.{removed-filter, added-filter, stayed-filter}
+use Rattle.bolt_base.proofs.EdgeParts.{old_edges_counted, new_edges_counted}
 use Rattle.bolt_base.proofs.change_laws.changes_are_filters.Goals as goal
 
 pub returns : goal.returns

@@ -1,4 +1,5 @@
-use Rattle.bolt_base.proofs.ResidueLemmas.{sum_at-append, residue-add, residues-fold, signed-residue}
+use Rattle.bolt_base.proofs.ResidueLemmas.{sum_at-append, residue-add, residues-fold}
+use Rattle.bolt_base.proofs.ResidueLemmas.{signed-residue}
 use Rattle.bolt_base.proofs.laws.amounts_add_up.Goals as goal
 
 pub returns : goal.returns

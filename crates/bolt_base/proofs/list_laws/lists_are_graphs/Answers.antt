@@ -1,5 +1,6 @@
 use Rattle.bolt_base.proofs.BareGraphs.{bare_good}
-use Rattle.bolt_base.proofs.PlainLists.{get-graph_of, graph_of_push, apart_push, length-graph_of, length-filter-graph_of, fold-filter-graph_of}
+use Rattle.bolt_base.proofs.PlainLists.{get-graph_of, graph_of_push, apart_push, length-graph_of}
+use Rattle.bolt_base.proofs.PlainLists.{length-filter-graph_of, fold-filter-graph_of}
 use Rattle.bolt_base.proofs.list_laws.lists_are_graphs.Goals as goal
 
 pub returns : goal.returns
