@@ -18,12 +18,9 @@ use Rattle.bolt_base.specs.declared.edge.Edit.TheVariants.{Add, Cut, Attr}
 use Rattle.bolt_base.specs.declared.limits.Limits.{Limits}
 use Rattle.bolt_base.proofs.BadLemmas.{bad_from-append, bad_from-stays}
 use Rattle.bolt_base.proofs.EdgeMap.{pairs_total}
+use Rattle.bolt_base.proofs.EdgeParts.{or_false}
 use Rattle.bolt_base.proofs.GoodLemmas.{length-with_attr}
 use Rattle.bolt_base.proofs.PairOrder.{other_src, apart_dst}
-
-or_false : (a b : Bool) → (a || b) ≡ false → (a ≡ false) × (b ≡ false)
-or_false true b e = absurd (cc)
-or_false false b e = (refl, e)
 
 -- ---- weights
 pub pair_apart : (k : Pair) (s d : ℕ) → (eqb s k.0 && eqb d k.1) ≡ false

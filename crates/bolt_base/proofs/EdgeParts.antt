@@ -104,7 +104,7 @@ new_edges_counted g h = are_counted g h (edges h) (added g h) (added-filter g h)
 pub stayed_out : StayedOutIsFilter
 stayed_out g h u = ap (filter (λ e. eqb e.src u)) (stayed-filter g h) ∙ filter-swap (λ e. eqb e.src u) (edge_stays g h) (edges h)
 
-or_false : (a b : Bool) → (a || b) ≡ false → (a ≡ false) × (b ≡ false)
+pub or_false : (a b : Bool) → (a || b) ≡ false → (a ≡ false) × (b ≡ false)
 or_false true b e = absurd (cc)
 or_false false b e = (refl, e)
 

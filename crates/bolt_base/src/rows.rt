@@ -61,7 +61,7 @@ impl Rows {
     /// The number of rows.
     pub fn len(&self) -> u32
         ensures len { result ≡ length self.now.rows }
-        ensures few { result ≤ 65 }
+        ensures few { result ≤ MOST_ROWS }
     {
         self.rows.len() as u32
     }
@@ -109,7 +109,7 @@ impl Rows {
     /// Appends the row of these aggregates and values, one of each for each vertex. Nothing changes
     /// after `Memory`.
     pub fn add_row(&mut self, aggs: &[Lanes], vals: &[Lanes]) -> Result<(), Memory>
-        requires few { length self.old.rows < 65 }
+        requires few { length self.old.rows < MOST_ROWS }
         requires aggs { length aggs.now ≡ self.old.vertices }
         requires vals { length vals.now ≡ self.old.vertices }
         requires agg_lanes { All (λ agg. length agg ≡ self.old.lanes) aggs.now }
