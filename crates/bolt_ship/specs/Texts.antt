@@ -2,7 +2,11 @@
 use Rattle.std.specs.Prelude.{ℕ, List, [], ◌∷◌, ◌++◌, Option, Some, None, codes}
 use Rattle.std.specs.Prelude.{if◌then◌else◌}
 use Rattle.std.specs.Str.{bytes_eq}
-use Rattle.vertex_lang.specs.Canonical.{ended_lines}
+
+-- lines, each ended by a line feed
+abbrev pub ended_lines : List (List ℕ) → List ℕ
+ended_lines [] = []
+ended_lines (l ∷ ls) = l ++ 10 ∷ ended_lines ls
 
 -- ranks by links: 1000000 stands for 1
 abbrev pub rank_text : List ℕ

@@ -2,8 +2,6 @@
 #![tactic(auto)]
 
 mod naming;
-#[cfg(test)]
-mod tests;
 mod texts;
 
 pub use naming::shipped;
