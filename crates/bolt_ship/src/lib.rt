@@ -2,6 +2,8 @@
 #![tactic(auto)]
 
 mod naming;
+#[cfg(test)]
+mod tests;
 mod texts;
 
 pub use naming::shipped;
