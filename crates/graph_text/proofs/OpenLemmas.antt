@@ -140,25 +140,25 @@ extended_more b n line more paired other = pick b.first_line b.edits b.lines b.b
             → (let b : OpenBatch = record { first_line = f; edits = es; lines = ls; bad = None } in extended (with_line b n (EditLine e)) (n + 1) more ≡ extended b n (EditLine e ∷ more))
         room true is =
             ap (λ (t : Bool). (let b : OpenBatch = record { first_line = Some (unwrap_or f n); edits = es; lines = ls; bad = None } in
-                let c : OpenBatch = cond t (record b { edits = es ++ e ∷ []; lines = ls ++ n ∷ [] }) (record b { bad = bad_at n Size }) in extended c (n + 1) more)) is
+            let c : OpenBatch = cond t (record b { edits = es ++ e ∷ []; lines = ls ++ n ∷ [] }) (record b { bad = bad_at n Size }) in extended c (n + 1) more)) is
             ∙ by_parts
-              (first_begun f n (length more))
-              (ap (take MOST_EDITS) (append_assoc es (e ∷ []) (edits_in (known_lines more))))
-              (ap (take MOST_EDITS) (append_assoc ls (n ∷ []) (edit_numbers (n + 1) (known_lines more))))
-              (ap (λ (x : List ℕ). too_many_or (slice_get x MOST_EDITS) (first_unknown (n + 1) more)) (append_assoc ls (n ∷ []) (edit_numbers (n + 1) (known_lines more)))
-                ∙ ap (too_many_or (slice_get (ls ++ n ∷ edit_numbers (n + 1) (known_lines more)) MOST_EDITS))
-                    (counted_on (λ (k : ℕ). bad_at k Syntax) None n (length (known_lines more)) (length more) (suc (length (known_lines more))) (omega arith)))
+            (first_begun f n (length more))
+            (ap (take MOST_EDITS) (append_assoc es (e ∷ []) (edits_in (known_lines more))))
+            (ap (take MOST_EDITS) (append_assoc ls (n ∷ []) (edit_numbers (n + 1) (known_lines more))))
+            (ap (λ (x : List ℕ). too_many_or (slice_get x MOST_EDITS) (first_unknown (n + 1) more)) (append_assoc ls (n ∷ []) (edit_numbers (n + 1) (known_lines more)))
+            ∙ ap (too_many_or (slice_get (ls ++ n ∷ edit_numbers (n + 1) (known_lines more)) MOST_EDITS))
+            (counted_on (λ (k : ℕ). bad_at k Syntax) None n (length (known_lines more)) (length more) (suc (length (known_lines more))) (omega arith)))
             ∙ known_first f es ls (EditLine e)
         room false is =
             let full : MOST_EDITS ≤ length es = grind (arith, nat_tests) in
             let size : length es ≡ MOST_EDITS = omega arith in
             ap (λ (t : Bool). (let b : OpenBatch = record { first_line = Some (unwrap_or f n); edits = es; lines = ls; bad = None } in
-                let c : OpenBatch = cond t (record b { edits = es ++ e ∷ []; lines = ls ++ n ∷ [] }) (record b { bad = bad_at n Size }) in extended c (n + 1) more)) is
+            let c : OpenBatch = cond t (record b { edits = es ++ e ∷ []; lines = ls ++ n ∷ [] }) (record b { bad = bad_at n Size }) in extended c (n + 1) more)) is
             ∙ by_parts
-              (first_begun f n (length more))
-              (sym (take_front MOST_EDITS es (e ∷ edits_in (known_lines more)) size))
-              (sym (take_front MOST_EDITS ls (n ∷ edit_numbers (n + 1) (known_lines more)) (same ∙ size)))
-              (ap (λ (o : Option ℕ). too_many_or o (unknown_by n (EditLine e ∷ known_lines more) (suc (length more)))) (sym (get_next MOST_EDITS ls n (edit_numbers (n + 1) (known_lines more)) (same ∙ size))))
+            (first_begun f n (length more))
+            (sym (take_front MOST_EDITS es (e ∷ edits_in (known_lines more)) size))
+            (sym (take_front MOST_EDITS ls (n ∷ edit_numbers (n + 1) (known_lines more)) (same ∙ size)))
+            (ap (λ (o : Option ℕ). too_many_or o (unknown_by n (EditLine e ∷ known_lines more) (suc (length more)))) (sym (get_next MOST_EDITS ls n (edit_numbers (n + 1) (known_lines more)) (same ∙ size))))
             ∙ known_first f es ls (EditLine e)
 
 -- there is a first part

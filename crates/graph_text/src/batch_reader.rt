@@ -191,8 +191,8 @@ pub struct BatchReader {
 impl Model for BatchReader {
     ghost use Rattle.std.specs.Prelude.{◌≤◌};
     ghost use Rattle.graph_text.specs.StreamText.{unfinished as unfinished_of};
-ghost use Rattle.graph_text.specs.OpenCode.{IsPaired, unopened, begun_at, with_edit as with_edit_of, with_unknown as with_unknown_of, with_line, committed as committed_of};
-ghost use Rattle.graph_text.specs.BatchCode.{Reader};
+    ghost use Rattle.graph_text.specs.OpenCode.{IsPaired, unopened, begun_at, with_edit as with_edit_of, with_unknown as with_unknown_of, with_line, committed as committed_of};
+    ghost use Rattle.graph_text.specs.BatchCode.{Reader};
 
     ghost Value = { Reader };
 

@@ -70,7 +70,7 @@ fn read_lines<S: Shelf>(
         draft_after limits.now (draft_of draft.old) (feed.old.lines + 1) lines ≡ Ok (draft_of draft.new))) }
     ensures bad { IfErr result (IfLine (λ number cause. IfSome (ahead (S.told shelf.old) feed.old) (λ lines.
         draft_after limits.now (draft_of draft.old) (feed.old.lines + 1) lines
-            ≡ Err (record { line = number; cause = cause })))) }
+        ≡ Err (record { line = number; cause = cause })))) }
     ensures made { OnOk result (Grows limits.now (draft_of draft.old) (draft_of draft.new)) }
     ensures end { OnOk result (IsAtEnd (S.told shelf.new) feed.new) }
     ensures reads { FeedReads S.told S.opened S.faults shelf.old shelf.new feed.old feed.new (stopped_by result) }
@@ -84,8 +84,8 @@ fn read_lines<S: Shelf>(
         (λ lines. IsOk (draft_after limits.now (draft_of draft.old) (feed.old.lines + 1) lines)))) }
     ensures early { IfErr result (IfLine (λ number cause. IfSome (S.told shelf.old) (MeetsLimit feed.old)
         → IfSome (ended_ahead (S.told shelf.old) feed.old)
-            (λ lines. draft_after limits.now (draft_of draft.old) (feed.old.lines + 1) lines
-                ≡ Err (record { line = number; cause = cause })))) }
+        (λ lines. draft_after limits.now (draft_of draft.old) (feed.old.lines + 1) lines
+        ≡ Err (record { line = number; cause = cause })))) }
     ensures no_lines { ended_within feed.new.taken (S.told shelf.old) feed.old ≡ option_map (λ _. []) (S.told shelf.old)
         → ended_within feed.new.taken (S.told shelf.new) feed.new ≡ option_map (λ _. []) (S.told shelf.new) }
 {

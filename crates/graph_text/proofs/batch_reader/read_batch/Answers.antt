@@ -54,7 +54,7 @@ returns-in_err-found-clause-unended g c =
     let e = c.in_err-found.ensures in
     let all = feed_reads_on g.S.Shelf.told g.S.Shelf.opened g.S.Shelf.faults _ _ _ first c.lines.feed f _ below c.lines.invariant.so_far c.lines.invariant.slot c.lines.invariant.lines e.reads in
     let ended : (most : ℕ) → f.taken ≤ most → EndsAhead start told first f c.lines.open most = λ most few.
-        ends_found start (g.S.Shelf.told c.lines.shelf) told first c.lines.feed f c.lines.open most e.lines (e.ended most few) (c.lines.invariant.ended most (let later = e.reads.reads.later in omega arith)) in
+    ends_found start (g.S.Shelf.told c.lines.shelf) told first c.lines.feed f c.lines.open most e.lines (e.ended most few) (c.lines.invariant.ended most (let later = e.reads.reads.later in omega arith)) in
     let alike : option_map (λ _. []) told ≡ (let o : Option (List BatchText) = option_map (λ _. []) start in o) = told_alike [] start told first.slot _ all.reads.takes in
     let h = if_more_wanted f c.in_err-found.field-0.0 (IfSome start (NoBatchEnds f.taken first)) e.reads.stops
     (λ none. no_batch_ends start first f.taken (ends_none start told first f c.lines.open f.taken c.lines.invariant.paired alike (ended_needs told f f.taken (omega arith) none) (ended f.taken (omega arith)))) in
@@ -70,7 +70,7 @@ returns-in_err-found-clause-stuck g c =
     let e = c.in_err-found.ensures in
     let all = feed_reads_on g.S.Shelf.told g.S.Shelf.opened g.S.Shelf.faults _ _ _ first c.lines.feed f _ below c.lines.invariant.so_far c.lines.invariant.slot c.lines.invariant.lines e.reads in
     let ended : (most : ℕ) → f.taken ≤ most → EndsAhead start told first f c.lines.open most = λ most few.
-        ends_found start (g.S.Shelf.told c.lines.shelf) told first c.lines.feed f c.lines.open most e.lines (e.ended most few) (c.lines.invariant.ended most (let later = e.reads.reads.later in omega arith)) in
+    ends_found start (g.S.Shelf.told c.lines.shelf) told first c.lines.feed f c.lines.open most e.lines (e.ended most few) (c.lines.invariant.ended most (let later = e.reads.reads.later in omega arith)) in
     let alike : option_map (λ _. []) told ≡ (let o : Option (List BatchText) = option_map (λ _. []) start in o) = told_alike [] start told first.slot _ all.reads.takes in
     let h = if_turns f c.in_err-found.field-0.0 (IfSome start (IsBatchStuck first)) e.reads.stops
     (λ spent. batch_stuck start first (limit_before start told first f below all.slot all.reads.later all.reads.takes spent.all)
@@ -125,7 +125,7 @@ returns-in_default-clause-first g c =
     let all = feed_reads_on g.S.Shelf.told g.S.Shelf.opened g.S.Shelf.faults _ _ _ first c.lines.feed f _ below c.lines.invariant.so_far c.lines.invariant.slot c.lines.invariant.lines e.reads in
     let end : IsAtEnd told f = subst (λ r. MatchOption r (IsAtEnd told f) (λ x. IsFront told f x.len x.whole)) c.in_default.is e.line in
     let ended : (most : ℕ) → f.taken ≤ most → EndsAhead start told first f c.lines.open most = λ most few.
-        ends_found start (g.S.Shelf.told c.lines.shelf) told first c.lines.feed f c.lines.open most e.lines (e.ended most few) (c.lines.invariant.ended most (let later = e.reads.reads.later in omega arith)) in
+    ends_found start (g.S.Shelf.told c.lines.shelf) told first c.lines.feed f c.lines.open most e.lines (e.ended most few) (c.lines.invariant.ended most (let later = e.reads.reads.later in omega arith)) in
     let alike : option_map (λ _. []) told ≡ (let o : Option (List BatchText) = option_map (λ _. []) start in o) = told_alike [] start told first.slot _ all.reads.takes in
     each c.leave_open.result (λ b most few. inl (ends_none start told first f c.lines.open most c.lines.invariant.paired alike (ended_at_end told f end most) (ended most few)))
   where
@@ -195,7 +195,7 @@ returns-in-Commit-clause-first g c =
     let front = subst (λ r. MatchOption r (IsAtEnd told f) (λ x. IsFront told f x.len x.whole)) c.in-Some.is e.line in
     let line_is : c.stream_line-line.result ≡ stream_line (seen (take found.len f.pending)) = c.stream_line-line.ensures ∙ ap stream_line c.text.ensures in
     let ended : (most : ℕ) → f.taken ≤ most → EndsAhead start told first f c.lines.open most = λ most few.
-        ends_found start (g.S.Shelf.told c.lines.shelf) told first c.lines.feed f c.lines.open most e.lines (e.ended most few) (c.lines.invariant.ended most (let later = e.reads.reads.later in omega arith)) in
+    ends_found start (g.S.Shelf.told c.lines.shelf) told first c.lines.feed f c.lines.open most e.lines (e.ended most few) (c.lines.invariant.ended most (let later = e.reads.reads.later in omega arith)) in
     let alike : option_map (λ _. []) told ≡ (let o : Option (List BatchText) = option_map (λ _. []) start in o) = told_alike [] start told first.slot _ all.reads.takes in
     let short : IsLastLine told f found.len found.whole → IfSome start (λ t. ¬ MeetsLimit first t) = limit_not_last start told first f below all.slot all.reads.later all.reads.takes found.len found.whole in
     let commit = sym line_is ∙ c.in-Commit.is in
@@ -219,7 +219,7 @@ returns-in-Commit-clause-not_stuck g c =
     let front = subst (λ r. MatchOption r (IsAtEnd told f) (λ x. IsFront told f x.len x.whole)) c.in-Some.is e.line in
     let line_is : c.stream_line-line.result ≡ stream_line (seen (take found.len f.pending)) = c.stream_line-line.ensures ∙ ap stream_line c.text.ensures in
     let ended : (most : ℕ) → f.taken ≤ most → EndsAhead start told first f c.lines.open most = λ most few.
-        ends_found start (g.S.Shelf.told c.lines.shelf) told first c.lines.feed f c.lines.open most e.lines (e.ended most few) (c.lines.invariant.ended most (let later = e.reads.reads.later in omega arith)) in
+    ends_found start (g.S.Shelf.told c.lines.shelf) told first c.lines.feed f c.lines.open most e.lines (e.ended most few) (c.lines.invariant.ended most (let later = e.reads.reads.later in omega arith)) in
     let alike : option_map (λ _. []) told ≡ (let o : Option (List BatchText) = option_map (λ _. []) start in o) = told_alike [] start told first.slot _ all.reads.takes in
     let short : IsLastLine told f found.len found.whole → IfSome start (λ t. ¬ MeetsLimit first t) = limit_not_last start told first f below all.slot all.reads.later all.reads.takes found.len found.whole in
     let commit = sym line_is ∙ c.in-Commit.is in
@@ -254,7 +254,7 @@ lines-preserved g c =
     let line_is : c.stream_line-line.result ≡ stream_line (seen (take found.len f.pending)) = c.stream_line-line.ensures ∙ ap stream_line c.text.ensures in
     let read = open_found (g.S.Shelf.told c.lines.shelf) told c.lines.feed f c.lines.open e.lines e.ahead ∙ c.lines.invariant.read in
     let ended : (most : ℕ) → f.taken ≤ most → EndsAhead start told first f c.lines.open most = λ most few.
-        ends_found start (g.S.Shelf.told c.lines.shelf) told first c.lines.feed f c.lines.open most e.lines (e.ended most few) (c.lines.invariant.ended most (let later = e.reads.reads.later in omega arith)) in
+    ends_found start (g.S.Shelf.told c.lines.shelf) told first c.lines.feed f c.lines.open most e.lines (e.ended most few) (c.lines.invariant.ended most (let later = e.reads.reads.later in omega arith)) in
     let alike : option_map (λ _. []) told ≡ (let o : Option (List BatchText) = option_map (λ _. []) start in o) = told_alike [] start told first.slot _ all.reads.takes in
     let short : IsLastLine told f found.len found.whole → IfSome start (λ t. ¬ MeetsLimit first t) = limit_not_last start told first f below all.slot all.reads.later all.reads.takes found.len found.whole in
     let n = f.lines + 1 in
