@@ -286,7 +286,7 @@ impl LineFeed {
             ≡ option_map (λ rest. answered_line line ∷ rest) (ahead (S.told shelf.new) self.new))) }
         ensures ended_line { IfOk result (λ r. IfSome r (λ line. IfSome (S.told shelf.old) (MeetsLimit self.old)
             → ended_ahead (S.told shelf.old) self.old
-                ≡ option_map (λ rest. answered_line line ∷ rest) (ended_ahead (S.told shelf.new) self.new))) }
+            ≡ option_map (λ rest. answered_line line ∷ rest) (ended_ahead (S.told shelf.new) self.new))) }
         ensures number { IfOk result (λ r. IfSome r (λ line. number_of line ≡ self.new.lines)) }
         ensures one_more { IfOk result (λ r. MatchOption r (self.new.lines ≡ self.old.lines)
             (λ _. self.new.lines ≡ self.old.lines + 1)) }
