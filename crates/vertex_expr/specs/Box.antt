@@ -36,12 +36,8 @@ box ps b attr = b.attr
 box ps b id = b.id
 box ps b (agg k) = slice_index_or b.agg k (only (pos 0))
 box ps b (old k) = slice_index_or b.old k (only (pos 0))
-box ps b (plus x y) =
-    let s = box ps b x in let t = box ps b y in
-    record { low = s.low +ℤ t.low; high = s.high +ℤ t.high }
-box ps b (minus x y) =
-    let s = box ps b x in let t = box ps b y in
-    record { low = s.low -ℤ t.high; high = s.high -ℤ t.low }
+box ps b (plus x y) = let s = box ps b x in let t = box ps b y in record { low = s.low +ℤ t.low; high = s.high +ℤ t.high }
+box ps b (minus x y) = let s = box ps b x in let t = box ps b y in record { low = s.low -ℤ t.high; high = s.high -ℤ t.low }
 box ps b (times x y) =
     let s = box ps b x in
     let t = box ps b y in

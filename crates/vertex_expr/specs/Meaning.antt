@@ -13,8 +13,7 @@ holds Less a b = int_lt a b
 holds AtMost a b = int_le a b
 holds Equal a b = int_le a b && int_le b a
 
--- the value of an expression over whole numbers without bound, where the program's params are these
--- numbers
+-- the value of an expression over whole numbers without bound, where the program's params are these numbers
 abbrev pub ev : List ℤ → Env → Tree → ℤ
 ev ps n (literal x) = x
 ev ps n (param k) = slice_index_or ps k (pos 0)

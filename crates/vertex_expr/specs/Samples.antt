@@ -37,8 +37,7 @@ rank = record {
   apply = damped ∷ [];
 }
 
--- if(attr = 1, 1000000, if(0 < attr, 0, clamp(agg[0] * 1000000 / max(agg[0] + agg[1], 1), 0,
--- 1000000)))
+-- if(attr = 1, 1000000, if(0 < attr, 0, clamp(agg[0] * 1000000 / max(agg[0] + agg[1], 1), 0, 1000000)))
 abbrev pub part_of_all : Tree
 part_of_all = over (times (agg 0) (literal (pos 1000000))) (greatest (plus (agg 0) (agg 1)) (literal (pos 1)))
 

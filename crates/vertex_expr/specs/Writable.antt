@@ -17,8 +17,7 @@ pub record Scope : Type 0 where
   pub lanes : ℕ
   pub params : List (List ℕ)
 
--- every literal fits, every param and lane that it names is there, and it mentions only what its
--- part may mention
+-- every literal fits, every param and lane that it names is there, and it mentions only what its part may mention
 abbrev pub IsPrintable : Scope → Tree → Type 0
 IsPrintable s (literal (pos n)) = n < 2 ^ 63
 IsPrintable s (literal (negsuc n)) = suc n ≤ 2 ^ 63
@@ -37,8 +36,7 @@ IsPrintable s (over a b) = IsPrintable s a × IsPrintable s b
 IsPrintable s (least a b) = IsPrintable s a × IsPrintable s b
 IsPrintable s (greatest a b) = IsPrintable s a × IsPrintable s b
 IsPrintable s (clamp x a b) = IsPrintable s x × IsPrintable s a × IsPrintable s b
-IsPrintable s (choose c a b x y) =
-    IsPrintable s a × IsPrintable s b × IsPrintable s x × IsPrintable s y
+IsPrintable s (choose c a b x y) = IsPrintable s a × IsPrintable s b × IsPrintable s x × IsPrintable s y
 
 -- a tree that a text can have in this place
 pub record IsTextTree (s : Scope) (t : Tree) : Type 0 where

@@ -6,8 +6,7 @@ pub fn floor_is_greatest()
     ensures law { FloorIsGreatest }
 {}
 
-/// On a safe box each node's value lies in its interval and within -2^120 to 2^120, and no divisor
-/// is 0.
+/// On a safe box each node's value lies in its interval and within -2^120 to 2^120, and no divisor is 0.
 pub fn boxes_are_sound()
     ensures law { BoxesAreSound }
 {}
@@ -22,8 +21,7 @@ pub fn all_are_numbered()
     ensures law { AllAreNumbered }
 {}
 
-/// The expressions of a program name only params and lanes that are there, and mention only what
-/// has an interval.
+/// The expressions of a program name only params and lanes that are there, and mention only what has an interval.
 pub fn programs_are_known()
     ensures law { ProgramsAreKnown }
 {}
