@@ -1,8 +1,9 @@
 -- What is left once words are taken and mark words are wiped.
-use Rattle.std.proofs.Common.{◌≡◌, ◌≢◌, ℕ, ◌+◌, ◌/◌, ◌%◌, ◌^◌, ◌<◌, ◌≤◌, ◌==◌, Bool, true, false, not, ◌&&◌, ◌||◌, cond, eq-eqb, List, [], ◌∷◌, ◌++◌, length, get_or, take, sym, refl, ap, ◌∙◌, subst, arith}
+use Rattle.std.proofs.Common.{◌≡◌, ◌≢◌, ℕ, zero, suc, append_assoc, ◌+◌, ◌/◌, ◌%◌, ◌^◌, ◌<◌, ◌≤◌, ◌==◌, Bool, true, false, not, ◌&&◌, ◌||◌, cond, eq-eqb, List, [], ◌∷◌, ◌++◌, length, get_or, take, sym, refl, ap, ◌∙◌, subst, arith}
 use Rattle.std.proofs.Math.Nat.{mod-add-mod}
 use Rattle.std.specs.Prelude.{All, filter}
 use Rattle.std.specs.List.{list_any}
+use Rattle.std.proofs.lemmas.List.{append-nil}
 use Rattle.std.proofs.lemmas.List.Folds.{list_any_more}
 use Rattle.std.proofs.lemmas.List.Elements.{All-head, All-tail}
 use Rattle.std.proofs.lemmas.List.Sums.{sum_by-cons}
@@ -10,7 +11,7 @@ use mathlib.Core.Logic.{dite}
 use native.Mathlib.Decide.{ℕ_discrete}
 use Rattle.bolt_base.specs.Residue.{Amount, sum_at}
 use Rattle.agg_words.specs.declared.layout.Layout.{Layout}
-use Rattle.agg_words.specs.View.{View, minus, times, outside, outside_all}
+use Rattle.agg_words.specs.View.{View, minus, taken_back, times, outside, outside_all}
 use Rattle.agg_words.specs.Known.{IsKnown}
 use Rattle.agg_words.specs.Rule.{mark_words}
 use Rattle.agg_words.proofs.Adding.{one, same_word, other_word, minus-add}
@@ -30,6 +31,24 @@ sum_at-taken w amounts =
 pub sum_at-other : (w u n : ℕ) (amounts : List Amount) → u ≢ w → sum_at u (amounts ++ one w n) ≡ sum_at u amounts
 sum_at-other w u n amounts apart =
     ap (λ x. x % 2 ^ 64) (whole_sum-append u amounts (one w n) ∙ (let z = other_word w u n apart in omega arith))
+
+-- taking back the sums for the words below one leaves its own sum
+sum_at-taken_back : (n w : ℕ) (amounts more : List Amount) → n ≤ w → sum_at w (more ++ taken_back n amounts) ≡ sum_at w more
+sum_at-taken_back zero w amounts more past = ap (sum_at w) (append-nil more)
+sum_at-taken_back (suc n) w amounts more past =
+    ap (sum_at w) (sym (append_assoc more (taken_back n amounts) (one n (minus (sum_at n amounts)))))
+    ∙ sum_at-other n w (minus (sum_at n amounts)) (more ++ taken_back n amounts) (λ e. absurd (omega arith))
+    ∙ sum_at-taken_back n w amounts more (omega arith)
+
+-- and the next one is taken back
+pub takes_back_next : (w : ℕ) (old now : List Amount) → now ≡ old ++ taken_back w old → now ++ one w (minus (sum_at w now)) ≡ old ++ taken_back (w + 1) old
+takes_back_next w old now are =
+    let same : sum_at w now ≡ sum_at w old = ap (sum_at w) are ∙ sum_at-taken_back w w old old (omega arith) in
+    let next : suc w ≡ w + 1 = omega arith in
+    ap (λ (l : List Amount). l ++ one w (minus (sum_at w now))) are
+    ∙ append_assoc old (taken_back w old) (one w (minus (sum_at w now)))
+    ∙ ap (λ (n : ℕ). old ++ (taken_back w old ++ one w (minus n))) same
+    ∙ ap (λ (n : ℕ). old ++ taken_back n old) next
 
 -- once all words below one are 0, and it is taken, it is 0 too
 pub takes_next : (w u : ℕ) (amounts : List Amount) → (u < w → sum_at u amounts ≡ 0) → u < w + 1 → sum_at u (amounts ++ one w (minus (sum_at w amounts))) ≡ 0

@@ -1,5 +1,5 @@
 -- What a view with all units tells of the whole table.
-use Rattle.std.proofs.Common.{◌≡◌, ◌≢◌, ℕ, zero, suc, ◌+◌, ◌/◌, ◌%◌, ◌^◌, ◌<◌, List, [], ◌∷◌, get_or, set, sym, refl, ap, ◌∙◌, subst, arith}
+use Rattle.std.proofs.Common.{◌≡◌, ◌≢◌, ℕ, zero, suc, ◌+◌, ◌/◌, ◌%◌, ◌^◌, ◌<◌, ◌≤◌, List, [], ◌∷◌, get_or, set, sym, refl, ap, ◌∙◌, subst, arith}
 use Rattle.std.proofs.lemmas.List.Sums.{sum_by-cons}
 use Rattle.std.proofs.lemmas.Nat.Bits.{bit_at-lt}
 use Rattle.std.proofs.lemmas.List.{set-get_or}
@@ -10,10 +10,12 @@ use Rattle.bolt_base.specs.Residue.{sum_at}
 use Rattle.agg_words.specs.declared.layout.Layout.{Layout}
 use Rattle.agg_words.specs.View.{View, IsBare, bare, times}
 use Rattle.agg_words.specs.Rule.{FitsWords, IsKept, bit_of, first_mark_word}
-use Rattle.agg_words.specs.Known.{IsKnown, IsClear}
+use Rattle.agg_words.specs.Known.{IsKnown, IsClear, MarksOnce}
 use Rattle.agg_words.specs.Steps.{looked}
 use Rattle.agg_words.specs.Laws.{TellsAll}
-use Rattle.agg_words.proofs.Views.{whole_sum, total, IsAt, total-set, sum_at-views, times-views, amount_in, marks_in, All-at, All-weaker, units-le}
+use Rattle.std.specs.Prelude.{All}
+use Rattle.agg_words.proofs.Pigeons.{few_bits}
+use Rattle.agg_words.proofs.Views.{whole_sum, total, IsAt, total-set, sum_at-views, times-views, amount_in, marks_in, All-at, All-weaker, one-le-total}
 
 abbrev pub Holds : Layout → State ℕ View → Type 0
 Holds k s = IsKept k s.words s.views
@@ -22,7 +24,7 @@ Holds k s = IsKept k s.words s.views
 pub others_none : (views : List View) (id i : ℕ) (v u : View) → IsAt views id v → total (λ x. x.units) views ≡ v.units → i ≢ id → IsAt views i u → u.units ≡ 0
 others_none views id i v u at all apart there =
     let t = total-set (λ x. x.units) views id v (bare 0) at in
-    let part = units-le (set views id (bare 0)) i u (set_else views id i (bare 0) apart ∙ there) in
+    let part = one-le-total (λ (x : View). x.units) (set views id (bare 0)) i u (set_else views id i (bare 0) apart ∙ there) in
     omega arith
 
 none_left : (f : View → ℕ) (views : List View) → total (λ x. x.units) views ≡ 0 → ((i : ℕ) (u : View) → IsAt views i u → u.units ≡ 0 → f u ≡ 0) → total f views ≡ 0
@@ -47,7 +49,7 @@ alone f (x ∷ xs) zero v at all hollow =
     let z = none_left f xs (omega arith) (λ i y there. hollow (suc i) y there) in
     omega arith
 alone f (x ∷ xs) (suc i) v at all hollow =
-    let p = units-le xs i v at in
+    let p = one-le-total (λ (x : View). x.units) xs i v at in
     let c = sum_by-cons (λ (y : View). y.units) x xs in
     let d = sum_by-cons f x xs in
     let z = hollow 0 x refl (omega arith) in
@@ -87,6 +89,21 @@ module _ (k : Layout) (words : List ℕ) (views : List View) (id : ℕ) (v : Vie
         met = All-weaker (λ bit. bit_of k words bit ≡ 1) (λ bit. 0 < times bit v.marks) v.met (λ bit one. let e = tells_bit bit in omega arith) fits.met_set;
       }
 
+-- the marks of any view
+pub marks_once : (k : Layout) (words : List ℕ) (views : List View) (id : ℕ) (v : View) → IsKept k words views → IsAt views id v → MarksOnce k v
+marks_once k words views id v h at = record { inside = inside; once = once; few = few_bits k.bits v.marks inside once }
+  where
+    inside : All (λ bit. bit < k.bits) v.marks
+    inside = (All-at (FitsWords k words) views id v h.seats at).marks_inside
+
+    once : (bit : ℕ) → times bit v.marks ≤ 1
+    once bit =
+        let part = one-le-total (marks_in bit) views id v at in
+        let e = h.bits bit in
+        let all = times-views bit views in
+        let low = bit_at-lt (get_or words (first_mark_word k + bit / 64) 0) (bit % 64) in
+        omega arith
+
 -- a clear view tells of zeros
 pub tells_zeros : (k : Layout) (words : List ℕ) (views : List View) (id : ℕ) (v : View) → IsKept k words views → IsAt views id v → IsClear k v
     → ((w : ℕ) → w < k.words → get_or words w 0 ≡ 0) × ((bit : ℕ) → bit_of k words bit ≡ 0)
@@ -102,5 +119,5 @@ looks k slots id me i s h homes at fits = (
   tt,
   let P : List ℕ × List View → Type 0 = λ p. IsKept k p.0 p.1 in
       subst P (λ j. (sym (set-get_or s.words i 0) j, sym (set_again s.views id me.0 at) j)) h,
-  (refl, is_known k s.words s.views id me.0 h at),
+  (refl, marks_once k s.words s.views id me.0 h at, is_known k s.words s.views id me.0 h at),
 )

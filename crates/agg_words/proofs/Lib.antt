@@ -1,4 +1,5 @@
 pub mod Views
+pub mod Pigeons
 pub mod Knowing
 pub mod Adding
 pub mod Marking

@@ -15,10 +15,10 @@ use Rattle.atomic_table.specs.Table.{Me, step, Allows, keeps}
 use Rattle.agg_words.specs.declared.layout.Layout.{Layout}
 use Rattle.agg_words.specs.View.{View, times, with_mark, with_met}
 use Rattle.agg_words.specs.Rule.{FitsWords, IsKept, bit_of, first_mark_word, mark_words}
-use Rattle.agg_words.specs.Known.{IsKnown}
+use Rattle.agg_words.specs.Known.{IsKnown, MarksOnce}
 use Rattle.agg_words.specs.Steps.{marked}
 use Rattle.agg_words.proofs.Views.{total, IsAt, total-set, times-append, amount_in, marks_in, sum_at-views, times-views, All-at, All-weaker, at-set}
-use Rattle.agg_words.proofs.Knowing.{Holds, is_known}
+use Rattle.agg_words.proofs.Knowing.{Holds, is_known, marks_once}
 
 pub times_one : (b c : ℕ) → c ≡ b → times c (b ∷ []) ≡ 1
 times_one b c e = rw (eq-eqb b c (sym e)) (omega arith)
@@ -140,16 +140,16 @@ module _ (k : Layout) (words : List ℕ) (b mask : ℕ) (long : first_mark_word 
 
     -- either way
     marks_now : (n : ℕ) → n ≡ bit_of k words b
-        → (w : View) × IsKept k marked_words (set views id w) × (w ≡ (if n == 0 then with_mark v b else with_met v b)) × (w.units ≡ k.units → IsKnown k w)
+        → (w : View) × IsKept k marked_words (set views id w) × (w ≡ (if n == 0 then with_mark v b else with_met v b)) × MarksOnce k w × (w.units ≡ k.units → IsKnown k w)
     marks_now zero e =
         let w = with_mark v b in
         let kept = when_clear (sym e) in
-        (w, kept, refl, is_known k marked_words (set views id w) id w kept (at-set views id v w at))
+        (w, kept, refl, marks_once k marked_words (set views id w) id w kept (at-set views id v w at), is_known k marked_words (set views id w) id w kept (at-set views id v w at))
     marks_now (suc n) e =
         let w = with_met v b in
         let low = bit_at-lt (get_or words (first_mark_word k + b / 64) 0) (b % 64) in
         let kept = when_set (omega arith) in
-        (w, kept, rw (ne_eqb (suc n) 0 (λ q. omega arith)) refl, is_known k marked_words (set views id w) id w kept (at-set views id v w at))
+        (w, kept, rw (ne_eqb (suc n) 0 (λ q. omega arith)) refl, marks_once k marked_words (set views id w) id w kept (at-set views id v w at), is_known k marked_words (set views id w) id w kept (at-set views id v w at))
 
 pub marks : (k : Layout) (slots id : ℕ) (me : Me ℕ View) (b mask : ℕ) → 0 < me.0.units → b < k.bits
     → ((n : ℕ) → bit_at (bit_or n mask) (b % 64) ≡ 1) → ((n i : ℕ) → i ≢ b % 64 → bit_at (bit_or n mask) i ≡ bit_at n i)
@@ -157,4 +157,4 @@ pub marks : (k : Layout) (slots id : ℕ) (me : Me ℕ View) (b mask : ℕ) → 
 unfolding marked_words
 marks k slots id me b mask unit here sets leaves s h homes at fits =
     let r = marks_now k s.words b mask h.long here sets leaves s.views id me.0 h at unit (bit_of k s.words b) refl in
-    (r.0, keeps, tt, r.1, (ap (λ (x : View). (x, me.1)) r.2, r.3))
+    (r.0, keeps, tt, r.1, (ap (λ (x : View). (x, me.1)) r.2, r.3, r.4))

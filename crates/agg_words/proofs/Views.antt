@@ -87,14 +87,14 @@ at-set [] i v w at = absurd (some-ne-none v (sym at))
 at-set (x ∷ xs) zero v w at = refl
 at-set (x ∷ xs) (suc i) v w at = at-set xs i v w at
 
--- no view has more units than all of them
-pub units-le : (views : List View) (i : ℕ) (v : View) → IsAt views i v → v.units ≤ total (λ x. x.units) views
-units-le [] i v at = absurd (some-ne-none v (sym at))
-units-le (x ∷ xs) zero v at =
-    let e = ap (λ (y : View). y.units) (some-injective x v at) in
-    let a = sum_by-cons (λ (y : View). y.units) x xs in
+-- no view has more of a number than all of them
+pub one-le-total : (f : View → ℕ) (views : List View) (i : ℕ) (v : View) → IsAt views i v → f v ≤ total f views
+one-le-total f [] i v at = absurd (some-ne-none v (sym at))
+one-le-total f (x ∷ xs) zero v at =
+    let e = ap f (some-injective x v at) in
+    let a = sum_by-cons f x xs in
     omega arith
-units-le (x ∷ xs) (suc i) v at =
-    let e = units-le xs i v at in
-    let a = sum_by-cons (λ (y : View). y.units) x xs in
+one-le-total f (x ∷ xs) (suc i) v at =
+    let e = one-le-total f xs i v at in
+    let a = sum_by-cons f x xs in
     omega arith

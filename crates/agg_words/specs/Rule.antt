@@ -17,7 +17,8 @@ mark_words bits = (bits + 63) / 64
 abbrev pub bit_of : Layout → List ℕ → ℕ → ℕ
 bit_of k words bit = bit_at (slice_index words (first_mark_word k + bit / 64)) (bit % 64)
 
--- what holds of one view: its bits are bits of the table, each bit that it has met is set, and without units it has nothing
+-- what holds of one view: its bits are bits of the table, each bit that it has met is set, and
+-- without units it has nothing
 pub record FitsWords (k : Layout) (words : List ℕ) (v : View) : Type 0 where
   pub marks_inside : All (λ bit. bit < k.bits) v.marks
   pub met_inside : All (λ bit. bit < k.bits) v.met
@@ -28,7 +29,8 @@ pub record IsKept (k : Layout) (words : List ℕ) (views : List View) : Type 0 w
   -- all words are there
   pub long : first_mark_word k + mark_words k.bits ≤ length words
   -- an aggregate word is the sum, modulo 2^64, of the amounts for it in all views
-  pub sums : (w : ℕ) → w < k.words → slice_index words w ≡ sum_at w (flat_map (λ v. v.amounts) views)
+  pub sums : (w : ℕ) → w < k.words → slice_index words w
+      ≡ sum_at w (flat_map (λ v. v.amounts) views)
   -- a bit is set exactly where it stands in the marks of all views, and so in one view, once
   pub bits : (bit : ℕ) → bit_of k words bit ≡ times bit (flat_map (λ v. v.marks) views)
   -- the units of all views are the table's

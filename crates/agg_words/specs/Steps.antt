@@ -1,10 +1,11 @@
--- What each kind of step tells of the number that it found and of its seat's new view. No seat holds a slot.
+-- What each kind of step tells of the number that it found and of its seat's new view. No seat
+-- holds a slot.
 use Rattle.std.specs.Prelude.{◌≡◌, ℕ, ◌%◌, ◌==◌}
 use Rattle.std.specs.Int.{bit_at}
 use Rattle.bolt_base.specs.Residue.{sum_at}
 use Rattle.atomic_table.specs.Table.{Step, Me}
 use Rattle.agg_words.specs.View.{View, with_amount, minus, with_bit, without_word}
-use Rattle.agg_words.specs.Known.{IsKnown}
+use Rattle.agg_words.specs.Known.{IsKnown, MarksOnce}
 use Rattle.agg_words.specs.declared.layout.Layout.{Layout}
 
 -- of a step, the seat before, the number found and the seat after
@@ -17,17 +18,20 @@ added st me found next = next ≡ (with_amount me.0 st.word st.first, me.1)
 
 -- the number found was the sum of the seat's amounts, which have grown by minus it
 abbrev pub taken : Told
-taken st me found next = (found ≡ sum_at st.word me.0.amounts) × (next ≡ (with_amount me.0 st.word (minus found), me.1))
+taken st me found next =
+    (found ≡ sum_at st.word me.0.amounts) × (next ≡ (with_amount me.0 st.word (minus found), me.1))
 
 -- the bit was clear and has joined the marks, or was set and has been met
 abbrev pub marked : ℕ → Layout → Told
 marked bit k st me found next =
     (next ≡ (with_bit (bit_at found (bit % 64) == 0) me.0 bit, me.1))
+    × MarksOnce k next.0
     × (next.0.units ≡ k.units → IsKnown k next.0)
 
 -- nothing has changed
 abbrev pub looked : Layout → Told
-looked k st me found next = (next ≡ me) × (next.0.units ≡ k.units → IsKnown k next.0)
+looked k st me found next =
+    (next ≡ me) × MarksOnce k next.0 × (next.0.units ≡ k.units → IsKnown k next.0)
 
 -- the bits of the mark word have left
 abbrev pub wiped : ℕ → Told

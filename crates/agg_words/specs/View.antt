@@ -1,9 +1,10 @@
 -- What a seat knows, and how each call changes it.
-use Rattle.std.specs.Prelude.{◌≡◌, ℕ, pos, neg_ℤ, ◌+◌, ◌-◌, ◌/◌, ◌==◌, Bool, not, if◌then◌else◌, List, [], ◌∷◌, ◌++◌, filter, count_by}
+use Rattle.std.specs.Prelude.{◌≡◌, ℕ, zero, suc, pos, neg_ℤ, ◌+◌, ◌-◌, ◌/◌, ◌==◌, Bool, not, if◌then◌else◌, List, [], ◌∷◌, ◌++◌, filter, count_by}
 use Rattle.std.specs.List.{list_any}
 use Rattle.bolt_base.specs.Residue.{Amount, residue, sum_at}
 
--- the units that a seat holds, the amounts that it added, the bits that it marked, and the bits that it found marked already
+-- the units that a seat holds, the amounts that it added, the bits that it marked, and the bits
+-- that it found marked already
 pub record View : Type 0 where
   pub units : ℕ
   pub amounts : List Amount
@@ -26,7 +27,8 @@ times bit bits = count_by (λ b. b == bit) bits
 
 -- with one more amount
 abbrev pub with_amount : View → ℕ → ℕ → View
-with_amount v word amount = record v { amounts = v.amounts ++ record { word = word; amount = amount } ∷ [] }
+with_amount v word amount =
+    record v { amounts = v.amounts ++ record { word = word; amount = amount } ∷ [] }
 
 -- minus a number, modulo 2^64
 abbrev pub minus : ℕ → ℕ
@@ -35,6 +37,13 @@ minus n = residue (neg_ℤ (pos n))
 -- with the sum for a word taken back
 abbrev pub with_taken : View → ℕ → View
 with_taken v word = with_amount v word (minus (sum_at word v.amounts))
+
+-- what takes back the sums for the first words, in order: for each word minus the sum of its
+-- amounts
+abbrev pub taken_back : ℕ → List Amount → List Amount
+taken_back zero amounts = []
+taken_back (suc word) amounts =
+    taken_back word amounts ++ record { word = word; amount = minus (sum_at word amounts) } ∷ []
 
 -- with one more mark
 abbrev pub with_mark : View → ℕ → View
@@ -54,7 +63,8 @@ outside mark_word bits = filter (λ b. not (b / 64 == mark_word)) bits
 
 -- without the bits of a mark word
 abbrev pub without_word : View → ℕ → View
-without_word v mark_word = record v { marks = outside mark_word v.marks; met = outside mark_word v.met }
+without_word v mark_word =
+    record v { marks = outside mark_word v.marks; met = outside mark_word v.met }
 
 -- a bit stands neither in the marks nor among the bits that were met
 pub record IsGone (v : View) (bit : ℕ) : Type 0 where
@@ -67,7 +77,8 @@ outside_all wiped bits = filter (λ b. not (list_any (λ c. b / 64 == c / 64) wi
 
 -- without the bits of the mark words of all these
 abbrev pub without_words_of : View → List ℕ → View
-without_words_of v wiped = record v { marks = outside_all wiped v.marks; met = outside_all wiped v.met }
+without_words_of v wiped =
+    record v { marks = outside_all wiped v.marks; met = outside_all wiped v.met }
 
 -- what is left where some units are given away
 abbrev pub with_fewer : View → ℕ → View

@@ -1,4 +1,5 @@
-//! Aggregate words and mark words that several threads change by single atomic steps, under one rule.
+//! Aggregate words and mark words that several threads change by single atomic steps, under one
+//! rule.
 #![tactic(auto)]
 
 mod clear;

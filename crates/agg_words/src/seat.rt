@@ -3,8 +3,8 @@ use crate::view::View;
 use atomic_table::Seat;
 use std::marker::Model;
 
-/// A place at a table: some of its units, and what was done with them. It has no bytes. The units of a seat that is
-/// dropped are lost, so no seat of the table ever holds all units again.
+/// A place at a table: some of its units, and what was done with them. It has no bytes. The units
+/// of a seat that is dropped are lost, so no seat of the table ever holds all units again.
 #[derive(Drop)]
 pub struct AggSeat {
     pub(crate) seat: Seat<u8, View>,

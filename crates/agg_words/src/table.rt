@@ -4,7 +4,7 @@ ghost use Rattle.std.specs.Int.{cast_signed, w64};
 ghost use Rattle.bolt_base.specs.Residue.{sum_at};
 ghost use Rattle.agg_words.specs.View.{IsGone, bare, joined, with_amount, with_bit, with_fewer, with_taken, without_word};
 ghost use Rattle.agg_words.specs.Rule.{mark_words};
-ghost use Rattle.agg_words.specs.Known.{IsClear, IsKnown};
+ghost use Rattle.agg_words.specs.Known.{IsClear, IsKnown, MarksOnce};
 ghost use Rattle.agg_words.specs.Facts.{word_count};
 
 use crate::layout::Layout;
@@ -16,8 +16,9 @@ use bolt_base::Memory;
 use std::alloc::Global;
 use std::marker::{Brand, Model};
 
-/// A table of aggregate words, each a number modulo 2^64, and of bits that can be marked. Threads share it by `&` and
-/// step with seats of their own. Each call but `new` takes no memory and waits for no other thread.
+/// A table of aggregate words, each a number modulo 2^64, and of bits that can be marked. Threads
+/// share it by `&` and step with seats of their own. Each call but `new` takes no memory and waits
+/// for no other thread.
 #[derive(Drop)]
 pub struct AggWords {
     table: Table<u8, View, Layout, Words, Global>,
@@ -35,9 +36,9 @@ impl Model for AggWords {
 }
 
 impl AggWords {
-    /// A table whose words are all 0 and whose bits are all clear, and the seat with all units. It has 8 bytes for
-    /// each aggregate word and for each 64 bits, and one word where there is no aggregate word. While it is made it
-    /// takes as much again.
+    /// A table whose words are all 0 and whose bits are all clear, and the seat with all units. It
+    /// has 8 bytes for each aggregate word and for each 64 bits, and one word where there is no
+    /// aggregate word. While it is made it takes as much again.
     pub fn new(
         alloc: Global,
         words: u32,
@@ -45,7 +46,8 @@ impl AggWords {
         units: u32,
     ) -> Result<(AggWords, AggSeat), Memory>
         requires { 1 ≤ units }
-        ensures layout { IfOk result (λ r. r.0.layout ≡ record { words = words; bits = bits; units = units }) }
+        ensures layout { IfOk result (λ r. r.0.layout
+            ≡ record { words = words; bits = bits; units = units }) }
         ensures seat { IfOk result (λ r. r.1 ≡ record { table = r.0.table; view = bare units }) }
         ensures clear { IfOk result (λ r. IsClear r.0.layout r.1.view) }
         ensures size { IfOk result (λ r. r.0.table.words ≡ word_count r.0.layout) }
@@ -92,7 +94,9 @@ impl AggWords {
         requires table { seat.old.table ≡ self.now.table }
         requires other_table { other.table ≡ self.now.table }
         ensures seat { seat.new ≡ record seat.old { view = joined seat.old.view other.view } }
-        ensures full { seat.new.view.units ≡ self.now.layout.units → IsKnown self.now.layout seat.new.view }
+        ensures once { MarksOnce self.now.layout seat.new.view }
+        ensures full { seat.new.view.units ≡ self.now.layout.units
+            → IsKnown self.now.layout seat.new.view }
     {
         let AggSeat { seat: second } = other;
         self.table.shared.join_seat::<Glue>(&mut seat.seat, second);
@@ -100,12 +104,14 @@ impl AggWords {
         self.know(seat);
     }
 
-    /// Loads word 0, which changes nothing. With all units it shows that each mark is a bit of the table and stands
-    /// once, and that each met bit is among the marks.
+    /// Loads word 0, which changes nothing. It shows that each mark of the seat is a bit of the
+    /// table and stands once, and with all units that each met bit is among the marks.
     pub fn know(&self, seat: &mut AggSeat)
         requires table { seat.old.table ≡ self.now.table }
         ensures same { seat.new ≡ seat.old }
-        ensures full { seat.new.view.units ≡ self.now.layout.units → IsKnown self.now.layout seat.new.view }
+        ensures once { MarksOnce self.now.layout seat.new.view }
+        ensures full { seat.new.view.units ≡ self.now.layout.units
+            → IsKnown self.now.layout seat.new.view }
     {
         self.know_as::<Brand>(seat);
     }
@@ -114,7 +120,9 @@ impl AggWords {
         requires told { O.layout ≡ self.now.layout }
         requires table { seat.old.table ≡ self.now.table }
         ensures same { seat.new ≡ seat.old }
-        ensures full { seat.new.view.units ≡ self.now.layout.units → IsKnown self.now.layout seat.new.view }
+        ensures once { MarksOnce self.now.layout seat.new.view }
+        ensures full { seat.new.view.units ≡ self.now.layout.units
+            → IsKnown self.now.layout seat.new.view }
     {
         self.table.shared.load::<Look<O>>(&mut seat.seat, 0);
     }
@@ -131,8 +139,8 @@ impl AggWords {
             .fetch_add::<Add>(&mut seat.seat, word as usize, amount);
     }
 
-    /// Makes an aggregate word 0 by one swap, and answers the sum modulo 2^64 of all amounts for it, read as two's
-    /// complement.
+    /// Makes an aggregate word 0 by one swap, and answers the sum modulo 2^64 of all amounts for
+    /// it, read as two's complement.
     pub fn take(&self, seat: &mut AggSeat, word: u32) -> i64
         requires table { seat.old.table ≡ self.now.table }
         requires word { word < self.now.layout.words }
@@ -148,14 +156,16 @@ impl AggWords {
         sum.cast_signed()
     }
 
-    /// Marks a bit by one `fetch_or`. True where the bit was clear at this step, and stands in the seat's marks now;
-    /// false where it was set, and the seat has met it.
+    /// Marks a bit by one `fetch_or`. True where the bit was clear at this step, and stands in the
+    /// seat's marks now; false where it was set, and the seat has met it.
     pub fn mark(&self, seat: &mut AggSeat, bit: u32) -> bool
         requires table { seat.old.table ≡ self.now.table }
         requires bit { bit < self.now.layout.bits }
         requires unit { 1 ≤ seat.old.view.units }
         ensures seat { seat.new ≡ record seat.old { view = with_bit result seat.old.view bit } }
-        ensures full { seat.new.view.units ≡ self.now.layout.units → IsKnown self.now.layout seat.new.view }
+        ensures once { MarksOnce self.now.layout seat.new.view }
+        ensures full { seat.new.view.units ≡ self.now.layout.units
+            → IsKnown self.now.layout seat.new.view }
     {
         self.mark_as::<Brand>(seat, bit)
     }
@@ -166,7 +176,9 @@ impl AggWords {
         requires bit { bit < self.now.layout.bits }
         requires unit { 1 ≤ seat.old.view.units }
         ensures seat { seat.new ≡ record seat.old { view = with_bit result seat.old.view bit } }
-        ensures full { seat.new.view.units ≡ self.now.layout.units → IsKnown self.now.layout seat.new.view }
+        ensures once { MarksOnce self.now.layout seat.new.view }
+        ensures full { seat.new.view.units ≡ self.now.layout.units
+            → IsKnown self.now.layout seat.new.view }
     {
         let word = self.layout.place_of(bit / 64);
         let mask = 1u64 << (bit % 64);

@@ -34,7 +34,8 @@ pub fn line_feed_at(text: &[u8]) -> usize
     text.iter().take_while(|b| !(**b == b'\n')).count()
 }
 
-fn comment_at(line: &[u8]) -> usize
+/// How many bytes stand before the comment.
+pub fn comment_at(line: &[u8]) -> usize
     ensures value { result ≡ prefix_len is_no_hash line.now }
     ensures within { result ≤ length line.now }
 {
