@@ -1,0 +1,15 @@
+-- The files that a command reads.
+use Rattle.std.specs.Prelude.{ℕ, Bool, true, List}
+
+-- the bytes of the file of each name
+abbrev pub Content : Type 0
+Content = List ℕ → List ℕ
+
+-- a file that a command reads: its name, and whether it is read to its end
+pub record Named : Type 0 where
+  pub name : List ℕ
+  pub to_end : Bool
+
+-- a stream is read to its end
+abbrev pub stream_file : List ℕ → Named
+stream_file name = record { name = name; to_end = true }

@@ -1,0 +1,4 @@
+pub mod Steps
+pub mod Files
+pub mod Course
+pub mod Graphs
