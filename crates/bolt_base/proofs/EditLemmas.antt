@@ -1,5 +1,6 @@
 -- The edges, degrees and attributes that an edit leaves.
-use Rattle.std.proofs.Common.{◌≡◌, ℕ, ℤ, ◌+◌, Bool, true, false, cond, eqb, List, [], ◌∷◌, map, filter, length, refl, sym, ap, ◌∙◌, subst, arith, Some, None}
+use Rattle.std.proofs.Common.{◌≡◌, ℕ, ℤ, ◌+◌, Bool, true, false, cond, eqb, List, [], ◌∷◌, map}
+use Rattle.std.proofs.Common.{filter, length, refl, sym, ap, ◌∙◌, subst, arith, Some, None}
 use Rattle.std.specs.declared.cmp.Ordering.{Ordering}
 use Rattle.std.specs.declared.cmp.Ordering.TheVariants.{Less, Equal, Greater}
 use Rattle.std.specs.Ordering.{is_eq, eq_by_cmp}
@@ -18,7 +19,8 @@ use Rattle.bolt_base.proofs.EdgeMap.{pairs_total, pairs_exact}
 abbrev pub one_if : Bool → ℕ
 one_if b = cond b 1 0
 
-length-filter-cons : {X : Type 0} (p : X → Bool) (x : X) (xs : List X) → length (filter p (x ∷ xs)) ≡ one_if (p x) + length (filter p xs)
+length-filter-cons : {X : Type 0} (p : X → Bool) (x : X) (xs : List X)
+    → length (filter p (x ∷ xs)) ≡ one_if (p x) + length (filter p xs)
 length-filter-cons p x xs = elim (p x) as (λ b. length (cond b (x ∷ filter p xs) (filter p xs)) ≡ one_if b + length (filter p xs)) [ true ↦ omega arith | false ↦ omega arith ]
 
 filter_all : {X : Type 0} (xs : List X) → filter (λ _. true) xs ≡ xs
@@ -33,7 +35,8 @@ module _ (k : Pair) (w : ℤ) where
   abbrev put_in : List (Pair × ℤ) → List Edge
   put_in es = map edge (put pair_cmp k w es)
 
-  count_put : (p : Edge → Bool) (es : List (Pair × ℤ)) → find pair_cmp k es ≡ None → length (filter p (put_in es)) ≡ one_if (p new) + length (filter p (map edge es))
+  count_put : (p : Edge → Bool) (es : List (Pair × ℤ)) → find pair_cmp k es ≡ None
+      → length (filter p (put_in es)) ≡ one_if (p new) + length (filter p (map edge es))
   count_put p [] h = length-filter-cons p new []
   count_put p (e ∷ es) h =
       elim (pair_cmp k e.0) as (λ r. cond (is_eq r) (Some e.1) (find pair_cmp k es) ≡ None
@@ -47,7 +50,8 @@ module _ (k : Pair) (w : ℤ) where
             omega arith
       ] h
 
-  all_put : (P : Edge → Type 0) (es : List (Pair × ℤ)) → find pair_cmp k es ≡ None → P new → AllByRecursion P (map edge es) → AllByRecursion P (put_in es)
+  all_put : (P : Edge → Type 0) (es : List (Pair × ℤ)) → find pair_cmp k es ≡ None → P new
+      → AllByRecursion P (map edge es) → AllByRecursion P (put_in es)
   all_put P [] h x all = (x, tt)
   all_put P (e ∷ es) h x all =
       elim (pair_cmp k e.0) as (λ r. cond (is_eq r) (Some e.1) (find pair_cmp k es) ≡ None → AllByRecursion P (map edge (by_order r ((k, w) ∷ e ∷ es) ((e.0, w) ∷ es) (e ∷ put pair_cmp k w es)))) [
@@ -56,7 +60,8 @@ module _ (k : Pair) (w : ℤ) where
         | Greater ↦ λ n. (all.0, all_put P es n x all.1)
       ] h
 
-  all_before : (P : Edge → Type 0) (es : List (Pair × ℤ)) → find pair_cmp k es ≡ None → AllByRecursion P (put_in es) → P new × AllByRecursion P (map edge es)
+  all_before : (P : Edge → Type 0) (es : List (Pair × ℤ)) → find pair_cmp k es ≡ None
+      → AllByRecursion P (put_in es) → P new × AllByRecursion P (map edge es)
   all_before P [] h all = (all.0, tt)
   all_before P (e ∷ es) h all =
       elim (pair_cmp k e.0) as (λ r. cond (is_eq r) (Some e.1) (find pair_cmp k es) ≡ None → AllByRecursion P (map edge (by_order r ((k, w) ∷ e ∷ es) ((e.0, w) ∷ es) (e ∷ put pair_cmp k w es)))
@@ -74,10 +79,12 @@ module _ (g : Graph) (e : Edge) (absent : finite.get g.weights (e.src, e.dst) �
   edges_added : edges (edited g (Add e)) ≡ map edge (put pair_cmp (e.src, e.dst) e.weight (finite.entries g.weights))
   edges_added = ap (map edge) (finite.entries-insert pairs_total g.weights (e.src, e.dst) e.weight)
 
-  pub get_added : (q : Pair) → finite.get (edited g (Add e)).weights q ≡ cond (eq_by_cmp pair_cmp q (e.src, e.dst)) (Some e.weight) (finite.get g.weights q)
+  pub get_added : (q : Pair)
+      → finite.get (edited g (Add e)).weights q ≡ cond (eq_by_cmp pair_cmp q (e.src, e.dst)) (Some e.weight) (finite.get g.weights q)
   get_added q = finite.get-insert pairs_total g.weights (e.src, e.dst) e.weight q
 
-  pub count_added : (p : Edge → Bool) → length (filter p (edges (edited g (Add e)))) ≡ one_if (p e) + length (filter p (edges g))
+  pub count_added : (p : Edge → Bool)
+      → length (filter p (edges (edited g (Add e)))) ≡ one_if (p e) + length (filter p (edges g))
   count_added p = ap (λ es. length (filter p es)) edges_added ∙ count_put (e.src, e.dst) e.weight p (finite.entries g.weights) not_there
 
   pub length_added : length (edges (edited g (Add e))) ≡ 1 + length (edges g)
@@ -99,7 +106,8 @@ module _ (g : Graph) (e : Edge) (absent : finite.get g.weights (e.src, e.dst) �
       let both = all_before (e.src, e.dst) e.weight P (finite.entries g.weights) not_there (subst (AllByRecursion P) edges_added (recursion_from_All P (edges (edited g (Add e))) all)) in
       (both.0, All-from_recursion P (edges g) both.1)
 
--- ---- a cut of an edge that is there: the graph is what the addition of that edge makes of what is left
+-- ---- a cut of an edge that is there: the graph is what the addition of that edge makes of what is
+-- left
 module _ (g : Graph) (s d : ℕ) (w : ℤ) (there : finite.get g.weights (s, d) ≡ Some w) where
   abbrev edge_cut : Edge
   edge_cut = record { src = s; dst = d; weight = w }
@@ -110,7 +118,8 @@ module _ (g : Graph) (s d : ℕ) (w : ℤ) (there : finite.get g.weights (s, d) 
   itself : eq_by_cmp pair_cmp (s, d) (s, d) ≡ true
   itself = ap is_eq (tied_itself pairs_total (s, d))
 
-  pub get_cut : (q : Pair) → finite.get left.weights q ≡ cond (eq_by_cmp pair_cmp q (s, d)) None (finite.get g.weights q)
+  pub get_cut : (q : Pair)
+      → finite.get left.weights q ≡ cond (eq_by_cmp pair_cmp q (s, d)) None (finite.get g.weights q)
   get_cut q = finite.get-remove pairs_total g.weights (s, d) q
 
   pub absent_after_cut : finite.get left.weights (s, d) ≡ None
@@ -130,13 +139,15 @@ module _ (g : Graph) (s d : ℕ) (w : ℤ) (there : finite.get g.weights (s, d) 
           equal Equal h = refl
           equal Greater h = cc
 
-      back : (q : Pair) → cond (eq_by_cmp pair_cmp q (s, d)) (Some w) (cond (eq_by_cmp pair_cmp q (s, d)) None (finite.get g.weights q)) ≡ finite.get g.weights q
+      back : (q : Pair)
+          → cond (eq_by_cmp pair_cmp q (s, d)) (Some w) (cond (eq_by_cmp pair_cmp q (s, d)) None (finite.get g.weights q)) ≡ finite.get g.weights q
       back q = elim (eq_by_cmp pair_cmp q (s, d)) as (λ b. eq_by_cmp pair_cmp q (s, d) ≡ b → cond b (Some w) (cond b None (finite.get g.weights q)) ≡ finite.get g.weights q) [
         | true ↦ λ e. sym there ∙ ap (finite.get g.weights) (sym (tied q e))
         | false ↦ λ e. refl
       ] refl
 
-  pub count_cut : (p : Edge → Bool) → length (filter p (edges g)) ≡ one_if (p edge_cut) + length (filter p (edges left))
+  pub count_cut : (p : Edge → Bool)
+      → length (filter p (edges g)) ≡ one_if (p edge_cut) + length (filter p (edges left))
   count_cut p = ap (λ h. length (filter p (edges h))) (sym cut_restored) ∙ count_added left edge_cut absent_after_cut p
 
   pub length_cut : length (edges g) ≡ 1 + length (edges left)

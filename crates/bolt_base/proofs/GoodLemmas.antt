@@ -1,24 +1,31 @@
 -- Edits that aren't bad keep a graph within its limits.
-use Rattle.std.proofs.Common.{◌≡◌, T, ℕ, ℤ, ◌+◌, ◌<◌, ◌≤◌, ◌≤ℤ◌, Bool, true, false, not, ◌&&◌, cond, eqb, ltb, List, [], ◌∷◌, ◌++◌, length, set, refl, sym, ap, ◌∙◌, subst, arith, inl, inr, ◌⊎◌, Option, Some, None, length-append}
+use Rattle.std.proofs.Common.{◌≡◌, T, ℕ, ℤ, ◌+◌, ◌<◌, ◌≤◌, ◌≤ℤ◌, Bool, true, false, not, ◌&&◌, cond}
+use Rattle.std.proofs.Common.{eqb, ltb, List, [], ◌∷◌, ◌++◌, length, set, refl, sym, ap, ◌∙◌, subst}
+use Rattle.std.proofs.Common.{arith, inl, inr, ◌⊎◌, Option, Some, None, length-append}
 use Rattle.std.specs.Prelude.{is_some, int_le}
 use Rattle.std.proofs.lemmas.Bool.{ltb-true, eqb-true, and_parts, or_cases, not-true, cases_Bool}
 use Rattle.std.proofs.lemmas.List.{length-set}
 use Rattle.std.proofs.lemmas.List.Elements.{All-set, All-push}
 use Rattle.std.specs.List.{All}
 use Rattle.std.specs.FinMap as finite
+pub use Rattle.bolt_base.specs.GoodEdits.{IsGoodAddition, IsGoodCut, IsGoodSetting}
 use Rattle.bolt_base.specs.Graph.{Graph, IsGood, IsBetween, edges, outdeg, indeg, within}
-use Rattle.bolt_base.specs.Edits.{edited, after, one, unless, bad_from, bad, with_attr, is_between, has_vertices, has_edge, has_degrees, has_room, may_be_set}
+use Rattle.bolt_base.specs.Edits.{edited, after, one, unless, bad_from, bad, with_attr, is_between}
+use Rattle.bolt_base.specs.Edits.{has_vertices, has_edge, has_degrees, has_room, may_be_set}
 use Rattle.bolt_base.specs.declared.edge.Edge.{Edge}
 use Rattle.bolt_base.specs.declared.edge.Edit.{Edit}
 use Rattle.bolt_base.specs.declared.edge.Edit.TheVariants.{Add, Cut, Attr}
 use Rattle.bolt_base.specs.declared.limits.Limits.{Limits}
 use Rattle.bolt_base.specs.declared.limits.LineCause.{LineCause}
-use Rattle.bolt_base.specs.declared.limits.LineCause.TheVariants.{Vertex, Weight, Attribute, Present, Absent, Degree, Edges}
+use Rattle.bolt_base.specs.declared.limits.LineCause.TheVariants.{Vertex, Weight, Attribute}
+use Rattle.bolt_base.specs.declared.limits.LineCause.TheVariants.{Present, Absent, Degree, Edges}
 use Rattle.bolt_base.proofs.BadLemmas.{first_good}
-use Rattle.bolt_base.proofs.EditLemmas.{one_if, length_added, outdeg_added, indeg_added, All-added, length_cut, outdeg_cut, indeg_cut, All-cut}
+use Rattle.bolt_base.proofs.EditLemmas.{one_if, length_added, outdeg_added, indeg_added, All-added}
+use Rattle.bolt_base.proofs.EditLemmas.{length_cut, outdeg_cut, indeg_cut, All-cut}
 
 -- ---- what tests say
-passed : (b : Bool) (cause : LineCause) (rest : Option LineCause) → unless b cause rest ≡ None → (b ≡ true) × (rest ≡ None)
+passed : (b : Bool) (cause : LineCause) (rest : Option LineCause) → unless b cause rest ≡ None
+    → (b ≡ true) × (rest ≡ None)
 passed true cause rest h = (refl, h)
 passed false cause rest h = cc
 
@@ -40,16 +47,8 @@ pub both_below : (a b c d : ℕ) → (ltb a b && ltb c d) ≡ true → (a < b) �
 both_below a b c d h = let parts = and_parts (ltb a b) (ltb c d) h in (ltb-true a b parts.0, ltb-true c d parts.1)
 
 -- ---- what a good addition, a good cut and a good attribute edit find
-pub record IsGoodAddition (l : Limits) (g : Graph) (e : Edge) : Type 0 where
-  pub src : e.src < length g.attrs
-  pub dst : e.dst < length g.attrs
-  pub weight : IsBetween l.weight_lo l.weight_hi e.weight
-  pub absent : finite.get g.weights (e.src, e.dst) ≡ None
-  pub out_degree : outdeg g e.src < l.degree
-  pub in_degree : indeg g e.dst < l.degree
-  pub room : length (edges g) < l.edges
-
-pub good_addition : (l : Limits) (g : Graph) (e : Edge) → one l g (Add e) ≡ None → IsGoodAddition l g e
+pub good_addition : (l : Limits) (g : Graph) (e : Edge) → one l g (Add e) ≡ None
+    → IsGoodAddition l g e
 good_addition l g e h =
     let a = passed (has_vertices g e.src e.dst) Vertex _ h in
     let b = passed (is_between l.weight_lo l.weight_hi e.weight) Weight _ a.1 in
@@ -68,12 +67,6 @@ good_addition l g e h =
       room = ltb-true (length (edges g)) l.edges f.0;
     }
 
-pub record IsGoodCut (g : Graph) (s d : ℕ) : Type 0 where
-  pub src : s < length g.attrs
-  pub dst : d < length g.attrs
-  pub weight : ℤ
-  pub there : finite.get g.weights (s, d) ≡ Some weight
-
 pub good_cut : (l : Limits) (g : Graph) (s d : ℕ) → one l g (Cut s d) ≡ None → IsGoodCut g s d
 good_cut l g s d h =
     let a = passed (has_vertices g s d) Vertex _ h in
@@ -83,24 +76,22 @@ good_cut l g s d h =
     record { src = ends.0; dst = ends.1; weight = edge.0; there = edge.1 }
 
 -- ---- an attribute set or added
-pub length-with_attr : (attrs : List ℤ) (v : ℕ) (a : ℤ) → length (with_attr attrs v a) ≡ one_if (eqb v (length attrs)) + length attrs
+pub length-with_attr : (attrs : List ℤ) (v : ℕ) (a : ℤ)
+    → length (with_attr attrs v a) ≡ one_if (eqb v (length attrs)) + length attrs
 length-with_attr attrs v a = elim (eqb v (length attrs)) as (λ b. length (cond b (attrs ++ a ∷ []) (set attrs v a)) ≡ one_if b + length attrs) [
   | true ↦ omega (arith, length-append attrs (a ∷ []))
   | false ↦ omega (arith, length-set attrs v a)
 ]
 
-pub All-with_attr : (P : ℤ → Type 0) (attrs : List ℤ) (v : ℕ) (a : ℤ) → P a → All P attrs → All P (with_attr attrs v a)
+pub All-with_attr : (P : ℤ → Type 0) (attrs : List ℤ) (v : ℕ) (a : ℤ) → P a → All P attrs
+    → All P (with_attr attrs v a)
 All-with_attr P attrs v a here all = elim (eqb v (length attrs)) as (λ b. All P (cond b (attrs ++ a ∷ []) (set attrs v a))) [
   | true ↦ All-push P attrs a all here
   | false ↦ All-set P attrs v a here all
 ]
 
-pub record IsGoodSetting (l : Limits) (g : Graph) (v : ℕ) (a : ℤ) : Type 0 where
-  pub few : length (with_attr g.attrs v a) ≤ l.vertices
-  pub known : v ≤ length g.attrs
-  pub attr : IsBetween l.attr_lo l.attr_hi a
-
-pub good_setting : (l : Limits) (g : Graph) (v : ℕ) (a : ℤ) → length g.attrs ≤ l.vertices → one l g (Attr v a) ≡ None → IsGoodSetting l g v a
+pub good_setting : (l : Limits) (g : Graph) (v : ℕ) (a : ℤ) → length g.attrs ≤ l.vertices
+    → one l g (Attr v a) ≡ None → IsGoodSetting l g v a
 good_setting l g v a fits h =
     let m = passed (may_be_set l g v) Vertex _ h in
     let b = passed (is_between l.attr_lo l.attr_hi a) Attribute None m.1 in
@@ -126,7 +117,8 @@ few_more : (b : Bool) (n u d : ℕ) → (b ≡ true → n < d) → n ≤ d → o
 few_more true n u d free fits = let room = free refl in omega arith
 few_more false n u d free fits = omega arith
 
-pub good_edited : (l : Limits) (g : Graph) (e : Edit) → IsGood l g → one l g e ≡ None → IsGood l (edited g e)
+pub good_edited : (l : Limits) (g : Graph) (e : Edit) → IsGood l g → one l g e ≡ None
+    → IsGood l (edited g e)
 good_edited l g (Add e) good h =
     let a = good_addition l g e h in
     record {
@@ -164,13 +156,15 @@ good_edited l g (Attr v a) good h =
       in_degrees = good.in_degrees;
     }
 
-pub good_from : (l : Limits) (g : Graph) (k : ℕ) (edits : List Edit) → IsGood l g → bad_from l g k edits ≡ None → IsGood l (after g edits)
+pub good_from : (l : Limits) (g : Graph) (k : ℕ) (edits : List Edit) → IsGood l g
+    → bad_from l g k edits ≡ None → IsGood l (after g edits)
 good_from l g k [] good h = good
 good_from l g k (e ∷ es) good h =
     let parts = first_good (one l g e) k (bad_from l (edited g e) (k + 1) es) h in
     good_from l (edited g e) (k + 1) es (good_edited l g e good parts.0) parts.1
 
-pub good_after : (l : Limits) (g : Graph) (edits : List Edit) → IsGood l g → bad l g edits ≡ None → IsGood l (after g edits)
+pub good_after : (l : Limits) (g : Graph) (edits : List Edit) → IsGood l g → bad l g edits ≡ None
+    → IsGood l (after g edits)
 good_after l g edits good h = good_from l g 0 edits good h
 
 -- ---- the limits of a graph that began with n vertices

@@ -1,5 +1,7 @@
 -- Which entries are kept, and what is read from them.
-use Rattle.std.proofs.Common.{◌≡◌, ◌≢◌, ℕ, ℤ, zero, suc, ◌+◌, ◌-◌, ◌<◌, ◌≤◌, Bool, true, false, List, ◌∷◌, length, get_or, take, reverse, min, refl, sym, ap, ◌∙◌, arith, inl, inr, length-take}
+use Rattle.std.proofs.Common.{◌≡◌, ◌≢◌, ℕ, ℤ, zero, suc, ◌+◌, ◌-◌, ◌<◌, ◌≤◌, Bool, true, false}
+use Rattle.std.proofs.Common.{List, ◌∷◌, length, get_or, take, reverse, min, refl, sym, ap, ◌∙◌}
+use Rattle.std.proofs.Common.{arith, inl, inr, length-take}
 use Rattle.std.specs.Ordering.{int_eq}
 use Rattle.std.specs.List.{suffix_len}
 use Rattle.std.specs.Cmp.{signed_Decides}
@@ -27,7 +29,8 @@ module _ (es : List Entry) (some : 0 < length es) where
   p e = same_entry e (last_of es)
 
   -- the k-th from the back
-  from_back : (j k : ℕ) → j + k + 1 ≡ length es → get_or (reverse es) k no_entry ≡ get_or es j no_entry
+  from_back : (j k : ℕ) → j + k + 1 ≡ length es
+      → get_or (reverse es) k no_entry ≡ get_or es j no_entry
   from_back j k e = get_or-reverse es k no_entry (omega arith) ∙ ap (λ i. get_or es i no_entry) (let f : length es - 1 - k ≡ j = omega arith in f)
 
   last_passes : p (last_of es) ≡ true
@@ -64,7 +67,8 @@ module _ (es : List Entry) (some : 0 < length es) where
   is_rest = record { inside = rest_below; equal = settled; before = unsettled }
 
 -- no earlier iteration will do
-pub rest_least : (es : List Entry) (n : ℕ) → IsRest es n → (m : ℕ) → ((j : ℕ) → m ≤ j → j < length es → get_or es j no_entry ≡ last_of es) → n ≤ m
+pub rest_least : (es : List Entry) (n : ℕ) → IsRest es n → (m : ℕ)
+    → ((j : ℕ) → m ≤ j → j < length es → get_or es j no_entry ≡ last_of es) → n ≤ m
 rest_least es n rest m equal = elim (cases_lt m n) [
   | inl l ↦ let inside = rest.inside in absurd (rest.before (omega arith) (equal (n - 1) (omega arith) (omega arith)))
   | inr l ↦ l
@@ -80,11 +84,13 @@ rest_only es n rest =
     omega arith
 
 -- ---- what is read
-in_front : (first : Entry) (more : List Entry) (k i : ℕ) → i ≤ k → get_or (first ∷ take k more) i no_entry ≡ get_or (first ∷ more) i no_entry
+in_front : (first : Entry) (more : List Entry) (k i : ℕ) → i ≤ k
+    → get_or (first ∷ take k more) i no_entry ≡ get_or (first ∷ more) i no_entry
 in_front first more k zero h = refl
 in_front first more k (suc i) h = get_or-take k more i no_entry (omega arith)
 
-pub read_stored : (vertical : Bool) (first : Entry) (more : List Entry) (j : ℕ) → j ≤ length more → read first (stored vertical (first ∷ more)) j ≡ get_or (first ∷ more) j no_entry
+pub read_stored : (vertical : Bool) (first : Entry) (more : List Entry) (j : ℕ) → j ≤ length more
+    → read first (stored vertical (first ∷ more)) j ≡ get_or (first ∷ more) j no_entry
 read_stored true first more j h =
     let es : List Entry = first ∷ more in
     let below : rest_at es < length es = rest_below es (omega arith) in

@@ -9,3 +9,16 @@ pub mod KeepLemmas
 pub mod PieceLemmas
 pub mod ResidueLemmas
 pub mod RowLemmas
+pub mod RowShapes
+pub mod SortedKeys
+pub mod PairOrder
+pub mod TouchedLemmas
+pub mod RisingLemmas
+pub mod BareGraphs
+pub mod Totals
+pub mod EdgeTotals
+pub mod Degrees
+pub mod EdgeParts
+pub mod AfterLemmas
+pub mod InsertLemmas
+pub mod RowColumns

@@ -1,5 +1,7 @@
--- A fold whose steps commute gives the same over a list of edges, in whatever order, as over its graph.
-use Rattle.std.proofs.Common.{◌≡◌, ℤ, cond, List, [], ◌∷◌, map, fold, refl, sym, ap, ◌∙◌, arith, Some, None, length}
+-- A fold whose steps commute gives the same over a list of edges, in whatever order, as over its
+-- graph.
+use Rattle.std.proofs.Common.{◌≡◌, ℤ, cond, List, [], ◌∷◌, map, fold, refl, sym, ap, ◌∙◌, arith}
+use Rattle.std.proofs.Common.{Some, None, length}
 use Rattle.std.specs.declared.cmp.Ordering.TheVariants.{Less, Equal, Greater}
 use Rattle.std.specs.Ordering.{is_eq}
 use Rattle.std.specs.FinMap as finite
@@ -17,7 +19,8 @@ pub entries-empty : finite.entries (let none : Weights = finite.empty in none) �
 entries-empty = no_entries (finite.entries finite.empty) (sym (finite.len-entries (finite.empty {R = pair_cmp})) ∙ finite.len-empty pair_cmp ℤ)
 
 module _ {B : Type 0} (f : B → Pair × ℤ → B) (swap : (b : B) (x y : Pair × ℤ) → f (f b x) y ≡ f (f b y) x) where
-  fold-put : (k : Pair) (v : ℤ) (es : List (Pair × ℤ)) (b : B) → find pair_cmp k es ≡ None → fold f b (put pair_cmp k v es) ≡ fold f (f b (k, v)) es
+  fold-put : (k : Pair) (v : ℤ) (es : List (Pair × ℤ)) (b : B) → find pair_cmp k es ≡ None
+      → fold f b (put pair_cmp k v es) ≡ fold f (f b (k, v)) es
   fold-put k v [] b h = refl
   fold-put k v (e ∷ es) b h =
       elim (pair_cmp k e.0) as (λ r. cond (is_eq r) (Some e.1) (find pair_cmp k es) ≡ None
@@ -35,11 +38,13 @@ module _ {B : Type 0} (f : B → Pair × ℤ → B) (swap : (b : B) (x y : Pair 
       ∙ fold-put (e.src, e.dst) e.weight (finite.entries rest) b (sym (finite.get-entries rest (e.src, e.dst)) ∙ finite.get-from_entries pairs_total (map entry es) (e.src, e.dst) ∙ h.0)
       ∙ fold-from_entries es (f b (entry e)) h.1
 
-fold-map : {X Y B : Type 0} (g : X → Y) (f : B → Y → B) (b : B) (xs : List X) → fold f b (map g xs) ≡ fold (λ a x. f a (g x)) b xs
+fold-map : {X Y B : Type 0} (g : X → Y) (f : B → Y → B) (b : B) (xs : List X)
+    → fold f b (map g xs) ≡ fold (λ a x. f a (g x)) b xs
 fold-map g f b [] = refl
 fold-map g f b (x ∷ xs) = fold-map g f (f b (g x)) xs
 
-pub fold-graph_of : {B : Type 0} (step : B → Edge → B) (start : B) (attrs : List ℤ) (es : List Edge) → ((b : B) (x y : Edge) → step (step b x) y ≡ step (step b y) x) → AreApart es
+pub fold-graph_of : {B : Type 0} (step : B → Edge → B) (start : B) (attrs : List ℤ) (es : List Edge)
+    → ((b : B) (x y : Edge) → step (step b x) y ≡ step (step b y) x) → AreApart es
     → fold step start (edges (graph_of attrs es)) ≡ fold step start es
 fold-graph_of {B} step start attrs es swap apart =
     let f : B → Pair × ℤ → B = λ b e. step b (edge e) in

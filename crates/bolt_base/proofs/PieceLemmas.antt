@@ -1,7 +1,9 @@
 -- How pieces lie beside each other.
-use Rattle.std.proofs.Common.{◌≡◌, ℕ, ◌+◌, ◌-◌, ◌*◌, ◌/◌, ◌<◌, ◌≤◌, List, ◌++◌, length, take, drop, sym, ap, ◌∙◌, arith, length-take, length-drop}
+use Rattle.std.proofs.Common.{◌≡◌, ℕ, ◌+◌, ◌-◌, ◌*◌, ◌/◌, ◌<◌, ◌≤◌, List, ◌++◌, length, take, drop}
+use Rattle.std.proofs.Common.{sym, ap, ◌∙◌, arith, length-take, length-drop}
 use Rattle.std.proofs.lemmas.List.{drop-drop, take_all}
-use Rattle.std.proofs.Math.Nat.{mul-le-mul_right, le_trans, div-mul-le_self, zero-mul, zero-div, mul-div_cancel_left}
+use Rattle.std.proofs.Math.Nat.{mul-le-mul_right, le_trans, div-mul-le_self, zero-mul, zero-div}
+use Rattle.std.proofs.Math.Nat.{mul-div_cancel_left}
 use Rattle.std.proofs.Math.Seq.{take-add}
 use Rattle.std.proofs.lemmas.Nat.{le-div}
 use Rattle.bolt_base.specs.Pieces.{cut, pieces}
@@ -19,7 +21,8 @@ pub cut_within : (p t w : ℕ) → 0 < w → p ≤ w → cut p t w ≤ t
 cut_within p t w some h = let most = cut-mono p w t w some h in let all = cut_last t w some in omega arith
 
 -- two runs of pieces side by side are one
-pub pieces-append : {X : Type 0} (xs : List X) (w p q r : ℕ) → 0 < w → p ≤ q → q ≤ r → pieces xs w p q ++ pieces xs w q r ≡ pieces xs w p r
+pub pieces-append : {X : Type 0} (xs : List X) (w p q r : ℕ) → 0 < w → p ≤ q → q ≤ r
+    → pieces xs w p q ++ pieces xs w q r ≡ pieces xs w p r
 pieces-append xs w p q r some pq qr =
     let t = length xs in
     let x = cut p t w in
@@ -37,7 +40,8 @@ pieces-whole xs w some =
     ap (λ (n : ℕ). take (cut w (length xs) w - n) (drop n xs)) (cut_first (length xs) w) ∙ ap (λ (n : ℕ). take (n - 0) xs) (cut_last (length xs) w some)
     ∙ take_all (length xs - 0) xs (omega arith)
 
-pub length-pieces : {X : Type 0} (xs : List X) (w p q : ℕ) → 0 < w → q ≤ w → length (pieces xs w p q) ≡ cut q (length xs) w - cut p (length xs) w
+pub length-pieces : {X : Type 0} (xs : List X) (w p q : ℕ) → 0 < w → q ≤ w
+    → length (pieces xs w p q) ≡ cut q (length xs) w - cut p (length xs) w
 length-pieces xs w p q some h =
     let from = cut p (length xs) w in
     let to = cut q (length xs) w in

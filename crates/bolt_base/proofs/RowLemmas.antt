@@ -1,6 +1,9 @@
 -- Rows as flat numbers.
-use Rattle.std.proofs.Common.{◌≡◌, map, ℕ, ℤ, pos, zero, suc, ◌+◌, ◌*◌, ◌<◌, List, [], ◌∷◌, ◌++◌, length, get_or, take, drop, refl, sym, ap, ◌∙◌, subst, arith, length-append, suc-mul, zero-mul, mul-le-mul_right}
-use Rattle.std.proofs.lemmas.List.{get_or-take, get_or-drop, take_at, drop_at, get_or-map, length-map, map-append}
+use Rattle.std.proofs.Common.{◌≡◌, map, ℕ, ℤ, pos, zero, suc, ◌+◌, ◌*◌, ◌<◌, List, [], ◌∷◌, ◌++◌}
+use Rattle.std.proofs.Common.{length, get_or, take, drop, refl, sym, ap, ◌∙◌, subst, arith}
+use Rattle.std.proofs.Common.{length-append, suc-mul, zero-mul, mul-le-mul_right}
+use Rattle.std.proofs.lemmas.List.{get_or-take, get_or-drop, take_at, drop_at, get_or-map}
+use Rattle.std.proofs.lemmas.List.{length-map, map-append}
 use Rattle.std.proofs.lemmas.List.Elements.{All-head, All-tail}
 use Rattle.std.specs.List.{All, flat_map, zip}
 use Rattle.bolt_base.specs.Keep.{no_entry}
@@ -18,18 +21,22 @@ length-entries_of l zero aggs vals = refl
 length-entries_of l (suc n) aggs vals = ap suc (length-entries_of l n (drop l aggs) (drop l vals))
 
 -- the numbers of a vertex stand after those of the vertices before it
-further : (l v k : ℕ) (xs : List ℤ) → get_or (drop l xs) (v * l + k) (pos 0) ≡ get_or xs (suc v * l + k) (pos 0)
+further : (l v k : ℕ) (xs : List ℤ)
+    → get_or (drop l xs) (v * l + k) (pos 0) ≡ get_or xs (suc v * l + k) (pos 0)
 further l v k xs = get_or-drop l xs (v * l + k) (pos 0) ∙ ap (λ m. get_or xs m (pos 0)) (let e : l + (v * l + k) ≡ suc v * l + k = omega (arith, next v l) in e)
 
-first : (l k : ℕ) (xs : List ℤ) → k < l → get_or (take l xs) k (pos 0) ≡ get_or xs (0 * l + k) (pos 0)
+first : (l k : ℕ) (xs : List ℤ) → k < l
+    → get_or (take l xs) k (pos 0) ≡ get_or xs (0 * l + k) (pos 0)
 first l k xs h = get_or-take l xs k (pos 0) h ∙ ap (λ m. get_or xs m (pos 0)) (let e : k ≡ 0 * l + k = omega (arith, zero-mul l) in e)
 
-pub agg_at : (l n : ℕ) (aggs vals : List ℤ) (v k : ℕ) → v < n → k < l → get_or (get_or (entries_of l n aggs vals) v no_entry).0 k (pos 0) ≡ get_or aggs (v * l + k) (pos 0)
+pub agg_at : (l n : ℕ) (aggs vals : List ℤ) (v k : ℕ) → v < n → k < l
+    → get_or (get_or (entries_of l n aggs vals) v no_entry).0 k (pos 0) ≡ get_or aggs (v * l + k) (pos 0)
 agg_at l zero aggs vals v k h i = absurd (omega arith)
 agg_at l (suc n) aggs vals zero k h i = first l k aggs i
 agg_at l (suc n) aggs vals (suc v) k h i = agg_at l n (drop l aggs) (drop l vals) v k (omega arith) i ∙ further l v k aggs
 
-pub val_at : (l n : ℕ) (aggs vals : List ℤ) (v k : ℕ) → v < n → k < l → get_or (get_or (entries_of l n aggs vals) v no_entry).1 k (pos 0) ≡ get_or vals (v * l + k) (pos 0)
+pub val_at : (l n : ℕ) (aggs vals : List ℤ) (v k : ℕ) → v < n → k < l
+    → get_or (get_or (entries_of l n aggs vals) v no_entry).1 k (pos 0) ≡ get_or vals (v * l + k) (pos 0)
 val_at l zero aggs vals v k h i = absurd (omega arith)
 val_at l (suc n) aggs vals zero k h i = first l k vals i
 val_at l (suc n) aggs vals (suc v) k h i = val_at l n (drop l aggs) (drop l vals) v k (omega arith) i ∙ further l v k vals
@@ -38,7 +45,8 @@ val_at l (suc n) aggs vals (suc v) k h i = val_at l n (drop l aggs) (drop l vals
 pub place_inside : (l n v k : ℕ) → v < n → k < l → v * l + k < n * l
 place_inside l n v k h i = let room = mul-le-mul_right {m = suc v} {n = n} l h in omega (arith, suc-mul v l)
 
-pub length_of_numbers : (l : ℕ) (items : List (List ℤ)) → All (λ item. length item ≡ l) items → length (flat_map (λ item. item) items) ≡ length items * l
+pub length_of_numbers : (l : ℕ) (items : List (List ℤ)) → All (λ item. length item ≡ l) items
+    → length (flat_map (λ item. item) items) ≡ length items * l
 length_of_numbers l [] wide = sym (zero-mul l)
 length_of_numbers l (x ∷ xs) wide =
     let P : List ℤ → Type 0 = λ item. length item ≡ l in
@@ -47,7 +55,8 @@ length_of_numbers l (x ∷ xs) wide =
     omega (arith, length-append x (flat_map (λ item. item) xs), next (length xs) l)
 
 -- the entries of the numbers of items are those items
-pub entries_of_numbers : (l : ℕ) (aggs vals : List (List ℤ)) (n : ℕ) → length aggs ≡ n → length vals ≡ n → All (λ item. length item ≡ l) aggs → All (λ item. length item ≡ l) vals
+pub entries_of_numbers : (l : ℕ) (aggs vals : List (List ℤ)) (n : ℕ) → length aggs ≡ n
+    → length vals ≡ n → All (λ item. length item ≡ l) aggs → All (λ item. length item ≡ l) vals
     → entries_of l n (flat_map (λ item. item) aggs) (flat_map (λ item. item) vals) ≡ zip aggs vals
 entries_of_numbers l [] vals zero e f p q = refl
 entries_of_numbers l [] vals (suc n) e f p q = absurd (omega arith)
@@ -73,15 +82,18 @@ module _ (r : Inside) (t : RowTable) (is : rows_of r ≡ t) where
   pub count_is : length r.rows.items ≡ length t.rows
   count_is = sym (length-map r.rows.items (row_of r.lanes r.vertices)) ∙ ap (λ (x : RowTable). length x.rows) is
 
-  row_is : (i : ℕ) (d : FlatRow) → i < length t.rows → get_or t.rows i [] ≡ row_of r.lanes r.vertices (get_or r.rows.items i d)
+  row_is : (i : ℕ) (d : FlatRow) → i < length t.rows
+      → get_or t.rows i [] ≡ row_of r.lanes r.vertices (get_or r.rows.items i d)
   row_is i d h = ap (λ (x : RowTable). get_or x.rows i []) (sym is) ∙ get_or-map (row_of r.lanes r.vertices) r.rows.items i d [] (omega (arith, count_is))
 
-  pub agg_is : (i v k : ℕ) (d : FlatRow) → i < length t.rows → v < t.vertices → k < t.lanes → get_or (entry_at t.rows i v).0 k (pos 0) ≡ get_or (get_or r.rows.items i d).aggs.items (v * r.lanes + k) (pos 0)
+  pub agg_is : (i v k : ℕ) (d : FlatRow) → i < length t.rows → v < t.vertices → k < t.lanes
+      → get_or (entry_at t.rows i v).0 k (pos 0) ≡ get_or (get_or r.rows.items i d).aggs.items (v * r.lanes + k) (pos 0)
   agg_is i v k d h p q =
       let row : FlatRow = get_or r.rows.items i d in
       ap (λ xs. get_or (get_or xs v no_entry).0 k (pos 0)) (row_is i d h) ∙ agg_at r.lanes r.vertices row.aggs.items row.vals.items v k (omega (arith, vertices_is)) (omega (arith, lanes_is))
 
-  pub val_is : (i v k : ℕ) (d : FlatRow) → i < length t.rows → v < t.vertices → k < t.lanes → get_or (entry_at t.rows i v).1 k (pos 0) ≡ get_or (get_or r.rows.items i d).vals.items (v * r.lanes + k) (pos 0)
+  pub val_is : (i v k : ℕ) (d : FlatRow) → i < length t.rows → v < t.vertices → k < t.lanes
+      → get_or (entry_at t.rows i v).1 k (pos 0) ≡ get_or (get_or r.rows.items i d).vals.items (v * r.lanes + k) (pos 0)
   val_is i v k d h p q =
       let row : FlatRow = get_or r.rows.items i d in
       ap (λ xs. get_or (get_or xs v no_entry).1 k (pos 0)) (row_is i d h) ∙ val_at r.lanes r.vertices row.aggs.items row.vals.items v k (omega (arith, vertices_is)) (omega (arith, lanes_is))

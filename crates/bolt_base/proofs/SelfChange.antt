@@ -1,11 +1,13 @@
 -- Nothing changes from a graph to itself.
-use Rattle.std.proofs.Common.{◌≡◌, ℕ, ℤ, Bool, true, false, not, ◌||◌, cond, eqb, List, [], ◌∷◌, map, filter, length, refl, sym, ap, ◌∙◌, Option, Some, None}
+use Rattle.std.proofs.Common.{◌≡◌, ℕ, ℤ, Bool, true, false, not, ◌||◌, cond, eqb, List, [], ◌∷◌}
+use Rattle.std.proofs.Common.{map, filter, length, refl, sym, ap, ◌∙◌, Option, Some, None}
 use Rattle.std.specs.Ordering.{int_eq}
 use Rattle.std.specs.Cmp.{signed_Decides}
 use Rattle.std.specs.List.{list_any, range_with_len}
 use Rattle.std.specs.FinMap as finite
 use Rattle.bolt_base.specs.Graph.{Graph, Weights, Pair, pair_cmp, edge, edges}
-use Rattle.bolt_base.specs.Change.{same_weights, stays, removed, added, stayed, is_source, sources, attr_at, changed_attrs}
+use Rattle.bolt_base.specs.Change.{same_weights, stays, removed, added, stayed, is_source, sources}
+use Rattle.bolt_base.specs.Change.{attr_at, changed_attrs}
 use Rattle.bolt_base.specs.Laws.{IsNoChange}
 use Rattle.bolt_base.proofs.EdgeMap.{pairs_total, pairs_exact, alike}
 use Rattle.bolt_base.proofs.Order.{entries-empty}
@@ -21,7 +23,8 @@ all_stay : (o : Option ℤ) → cond (same_weights o o) o None ≡ o
 all_stay None = refl
 all_stay (Some w) = ap (λ b. cond b (Some w) None) (same_itself w)
 
-filter_none : {X : Type 0} (p : X → Bool) → ((x : X) → p x ≡ false) → (xs : List X) → filter p xs ≡ []
+filter_none : {X : Type 0} (p : X → Bool) → ((x : X) → p x ≡ false) → (xs : List X)
+    → filter p xs ≡ []
 filter_none p none [] = refl
 filter_none p none (x ∷ xs) = ap (λ b. cond b (x ∷ filter p xs) (filter p xs)) (none x) ∙ filter_none p none xs
 

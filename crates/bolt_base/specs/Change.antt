@@ -1,5 +1,6 @@
 -- What changed from a graph to another one.
-use Rattle.std.specs.Prelude.{ℕ, ℤ, pos, Bool, false, not, ◌||◌, ◌==◌, List, map, filter, length, slice_index_or, Option, Some}
+use Rattle.std.specs.Prelude.{ℕ, ℤ, pos, Bool, false, not, ◌||◌, ◌==◌, List, map, filter, length}
+use Rattle.std.specs.Prelude.{slice_index_or, Option, Some}
 use Rattle.std.specs.Ordering.{int_eq}
 use Rattle.std.specs.List.{list_any, range_with_len}
 use Rattle.std.specs.FinMap as finite
@@ -39,7 +40,9 @@ is_source g h u = list_any (λ e. e.src == u) (removed g h) || list_any (λ e. e
 
 -- the sources of removed and added edges, rising, each with its old out-degree
 abbrev pub sources : Graph → Graph → List Touched
-sources g h = map (λ u. record { vertex = u; old_degree = outdeg g u }) (filter (is_source g h) (range_with_len 0 (length h.attrs)))
+sources g h =
+    map (λ u. record { vertex = u; old_degree = outdeg g u })
+    (filter (is_source g h) (range_with_len 0 (length h.attrs)))
 
 abbrev pub attr_at : Graph → ℕ → ℤ
 attr_at g v = slice_index_or g.attrs v (pos 0)

@@ -1,5 +1,6 @@
 -- Which iterations of a vertex are kept.
-use Rattle.std.specs.Prelude.{ℕ, ℤ, ◌-◌, Bool, true, false, ◌&&◌, List, [], ◌∷◌, map, length, min, take, drop, slice_index_or, sum_by}
+use Rattle.std.specs.Prelude.{ℕ, ℤ, ◌-◌, Bool, true, false, ◌&&◌, List, [], ◌∷◌, map, length, min}
+use Rattle.std.specs.Prelude.{take, drop, slice_index_or, sum_by}
 use Rattle.std.specs.Ordering.{int_eq}
 use Rattle.std.specs.List.{suffix_len, range_with_len}
 use Rattle.std.specs.Cmp.Lexicographic.{pointwise}
@@ -25,11 +26,13 @@ last_of entries = slice_index_or entries (length entries - 1) no_entry
 abbrev pub column : List Row → ℕ → List Entry
 column rows v = map (λ row. slice_index_or row v no_entry) rows
 
--- the least iteration from which on all entries are equal: those that equal the last one are left out, but for their first
+-- the least iteration from which on all entries are equal: those that equal the last one are left
+-- out, but for their first
 abbrev pub rest_at : List Entry → ℕ
 rest_at entries = length entries - suffix_len (λ e. same_entry e (last_of entries)) entries
 
--- the last iteration that is kept; each one is, unless those are left out at which the vertex has come to rest
+-- the last iteration that is kept; each one is, unless those are left out at which the vertex has
+-- come to rest
 abbrev pub keep : Bool → List Entry → ℕ
 keep true entries = rest_at entries
 keep false entries = length entries - 1

@@ -1,5 +1,6 @@
 -- The words of a value: a number for each lane, and zeros past them.
-use Rattle.std.specs.Prelude.{◌≡◌, ℕ, ℤ, pos, ◌-◌, ◌+◌, ◌≤◌, ◌<◌, List, ◌++◌, length, take, replicate}
+use Rattle.std.specs.Prelude.{◌≡◌, ℕ, ℤ, pos, ◌-◌, ◌+◌, ◌≤◌, ◌<◌, List, ◌++◌, length, take}
+use Rattle.std.specs.Prelude.{replicate}
 use Rattle.std.proofs.Common.{arith, sym, refl, ap, ◌∙◌, length-take, zero, suc, ◌∷◌, set, zero-add}
 use Rattle.std.proofs.Math.ListN.{length-set, length-replicate}
 use Rattle.std.proofs.Math.Seq.{take-set-lt}
@@ -44,7 +45,8 @@ zeros_padded w some h = record {
 }
 
 -- a write below the width keeps the padding
-pub set_padded : (w : ℕ) (word : List ℤ) (k : ℕ) (x : ℤ) → k < w → IsPadded w word → IsPadded w (set word k x)
+pub set_padded : (w : ℕ) (word : List ℤ) (k : ℕ) (x : ℤ) → k < w → IsPadded w word
+    → IsPadded w (set word k x)
 set_padded w word k x l h = record {
   some = h.some;
   narrow = h.narrow;

@@ -14,7 +14,10 @@ abbrev pub coded_rows : Coded (List Row)
 coded_rows = coded_list (coded_list (coded× (coded_list coded_ℤ) (coded_list coded_ℤ)))
 
 abbrev pub coded_row_table : Coded RowTable
-coded_row_table = code_by (ℕ × (ℕ × List Row)) (coded× coded_ℕ (coded× coded_ℕ coded_rows)) (λ t. (t.vertices, (t.lanes, t.rows))) (λ p. record { vertices = p.0; lanes = p.1.0; rows = p.1.1 }) (λ _. refl)
+coded_row_table =
+    code_by (ℕ × (ℕ × List Row)) (coded× coded_ℕ (coded× coded_ℕ coded_rows))
+    (λ t. (t.vertices, (t.lanes, t.rows)))
+    (λ p. record { vertices = p.0; lanes = p.1.0; rows = p.1.1 }) (λ _. refl)
 
 -- what a vertex has at an iteration
 abbrev pub entry_at : List Row → ℕ → ℕ → Entry
@@ -23,4 +26,5 @@ entry_at rows i v = slice_index_or (slice_index_or rows i []) v no_entry
 -- the first n entries of a row, from the numbers of its aggregates and those of its values
 abbrev pub entries_of : ℕ → ℕ → List ℤ → List ℤ → List Entry
 entries_of lanes zero aggs vals = []
-entries_of lanes (suc n) aggs vals = (take lanes aggs, take lanes vals) ∷ entries_of lanes n (drop lanes aggs) (drop lanes vals)
+entries_of lanes (suc n) aggs vals =
+    (take lanes aggs, take lanes vals) ∷ entries_of lanes n (drop lanes aggs) (drop lanes vals)

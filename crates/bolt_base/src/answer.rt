@@ -8,8 +8,8 @@ pub struct AnswerChange {
     pub value: Lanes,
 }
 
-/// How a program is run: the last iteration that is kept (at least 1), whether iterations at which a vertex has come to
-/// rest are left out, and the number of workers (1 to 64).
+/// How a program is run: the last iteration that is kept (at least 1), whether iterations at which
+/// a vertex has come to rest are left out, and the number of workers (1 to 64).
 #[derive(Clone, Copy, Debug, PartialEq, Eq)]
 pub struct Choice {
     pub cut: u32,

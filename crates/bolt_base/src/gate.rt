@@ -1,6 +1,7 @@
 // Gates that pieces of work pass.
 
-/// Told the number of each piece of work that is about to begin. What it does has no bearing on the work, and it returns.
+/// Told the number of each piece of work that is about to begin. What it does has no bearing on the
+/// work, and it returns.
 pub trait Gate {
     fn pass(&self, piece: u32);
 }

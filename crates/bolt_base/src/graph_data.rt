@@ -3,11 +3,13 @@ ghost use Rattle.std.specs.Prelude.{◌≡◌, IfOk};
 ghost use Rattle.bolt_base.specs.Plain.{AreApart, graph_of};
 
 use crate::edge::Edge;
-use crate::items::{AttrList, EdgeList, Memory};
+use crate::items::{AttrList, EdgeList};
+use crate::memory::Memory;
 use std::alloc::Global;
 use std::marker::Model;
 
-/// A graph as a list of attributes, one for each vertex, and a list of edges in any order, no two with the same ends.
+/// A graph as a list of attributes, one for each vertex, and a list of edges in any order, no two
+/// with the same ends.
 #[derive(Debug, Drop)]
 pub struct GraphData {
     attrs: AttrList,

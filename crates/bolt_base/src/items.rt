@@ -1,28 +1,14 @@
 // Lists, seen as lists.
-ghost use Rattle.std.specs.Prelude.{◌≡◌, ◌↔◌, [], ◌∷◌, ◌++◌, length, IfOk, OnOk, OnErr, IsTrue, slice_get};
+ghost use Rattle.std.specs.Prelude.{◌≡◌, ◌↔◌, [], ◌∷◌, ◌++◌, length, IfOk, OnOk, OnErr, IsTrue};
+ghost use Rattle.std.specs.Prelude.{slice_get};
 ghost use Rattle.std.specs.Option.{option_copied};
 
 use crate::answer::AnswerChange;
-use crate::edge::{Edge, Edit};
+use crate::edge::{AttrChange, Edge, Edit, Touched};
 use crate::lanes::Lanes;
-use std::alloc::{AllocError, AllocFailed, Global};
+use crate::memory::Memory;
+use std::alloc::Global;
 use std::marker::Model;
-
-/// Want of memory.
-#[derive(Clone, Copy, Debug, PartialEq, Eq)]
-pub struct Memory;
-
-impl From<AllocError> for Memory {
-    fn from(_: AllocError) -> Self {
-        Memory
-    }
-}
-
-impl<T: Drop> From<AllocFailed<T>> for Memory {
-    fn from(_: AllocFailed<T>) -> Self {
-        Memory
-    }
-}
 
 /// A list of items in order. A call that is refused leaves it as it was.
 #[derive(Debug, Drop)]
@@ -63,31 +49,35 @@ impl<T> Items<T> {
         items
     }
 
+    /// The number of items.
     pub fn len(&self) -> usize
         ensures { result ≡ length self.now }
     {
         self.items.len()
     }
 
+    /// Whether there is no item.
     pub fn is_empty(&self) -> bool
         ensures { IsTrue result ↔ (self.now ≡ []) }
     {
         self.items.is_empty()
     }
 
+    /// The items in order.
     pub fn as_slice(&self) -> &[T]
         ensures { result.now ≡ self.now }
     {
         self.items.as_slice()
     }
 
+    /// Item `k`, counted from 0, or none past the end.
     pub fn get(&self, k: usize) -> Option<&T>
         ensures { option_copied result ≡ slice_get self.now k }
     {
         self.items.get(k)
     }
 
-    /// The list is unchanged after `Memory`.
+    /// Appends an item. The list is unchanged after `Memory`.
     pub fn push(&mut self, item: T) -> Result<(), Memory>
     where
         T: Drop,
@@ -100,6 +90,23 @@ impl<T> Items<T> {
 }
 
 impl<T: Copy> Items<T> {
+    /// A list of a slice's items.
+    pub fn from_slice(alloc: Global, items: &[T]) -> Result<Items<T>, Memory>
+        ensures { IfOk result (λ list. list ≡ items.now) }
+    {
+        let items = Vec::from_slice(alloc, items)?;
+        Ok(Items { items })
+    }
+
+    /// Appends a slice's items in order. The list is unchanged after `Memory`.
+    pub fn extend_from_slice(&mut self, items: &[T]) -> Result<(), Memory>
+        ensures ok { OnOk result (self.new ≡ self.old ++ items.now) }
+        ensures err { OnErr result (self.new ≡ self.old) }
+    {
+        self.items.extend_from_slice(items)?;
+        Ok(())
+    }
+
     /// An equal list.
     pub fn copy(&self, alloc: Global) -> Result<Items<T>, Memory>
         ensures equal { IfOk result (λ copy. copy ≡ self.now) }
@@ -123,6 +130,10 @@ pub type BatchList = Items<EditList>;
 pub type LineList = Items<u64>;
 /// Vertices.
 pub type TargetList = Items<u32>;
+/// Sources of changed edges.
+pub type SourceList = Items<Touched>;
+/// Vertices whose attribute changed.
+pub type AttrChangeList = Items<AttrChange>;
 /// Changes of an answer.
 pub type ChangeList = Items<AnswerChange>;
 /// An answer: a value for each vertex.

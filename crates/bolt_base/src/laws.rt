@@ -1,7 +1,9 @@
 // Laws of the definitions. Nothing runs here.
-ghost use Rattle.bolt_base.specs.Laws.{OrderIsFree, BadIsFirst, EditsKeepGood, GoodHasRoom, RoomIsWithin, StayedIsShared, SelfIsNoChange};
-ghost use Rattle.bolt_base.specs.Laws.{RestIsRest, RestIsLeast, RestIsOnly, ReadsBack, PiecesAppend, PiecesAreAll, PiecesHaveLength};
-ghost use Rattle.bolt_base.specs.Laws.{SumsAppend, ResiduesAdd, ResiduesAreSigned};
+ghost use Rattle.bolt_base.specs.Laws.{OrderIsFree, BadIsFirst, EditsKeepGood, GoodHasRoom};
+ghost use Rattle.bolt_base.specs.Laws.{RoomIsWithin, StayedIsShared, SelfIsNoChange, RestIsRest};
+ghost use Rattle.bolt_base.specs.Laws.{RestIsLeast, RestIsOnly, ReadsBack, PiecesAppend};
+ghost use Rattle.bolt_base.specs.Laws.{PiecesAreAll, PiecesHaveLength, SumsAppend, ResiduesAdd};
+ghost use Rattle.bolt_base.specs.Laws.{ManyResiduesAdd, ResiduesAreSigned};
 
 /// What a fold with commuting steps gives doesn't depend on the order of a list of edges.
 pub fn order_is_free<B>()
@@ -45,5 +47,6 @@ pub fn pieces_are_whole<X>()
 pub fn amounts_add_up()
     ensures sums { SumsAppend }
     ensures residues { ResiduesAdd }
+    ensures many { ManyResiduesAdd }
     ensures signed { ResiduesAreSigned }
 {}

@@ -1,7 +1,7 @@
 // The limits of graphs, and the causes for which a line is bad.
 
-/// The limits of a graph: the most vertices, edges out of or into a vertex, and edges, and the ranges of weights and
-/// attributes, both ends included.
+/// The limits of a graph: the most vertices, edges out of or into a vertex, and edges, and the
+/// ranges of weights and attributes, both ends included.
 #[derive(Clone, Copy, Debug, PartialEq, Eq)]
 pub struct Limits {
     pub vertices: u32,

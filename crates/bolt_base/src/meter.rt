@@ -3,7 +3,8 @@ ghost use Rattle.std.specs.Prelude.{◌≡◌, ℕ, ◌+◌, ◌<◌, ◌≤◌,
 
 use std::marker::Model;
 
-/// A count of reads, and a number of units, at least 1, that splits share. A meter can't be dropped.
+/// A count of reads, and a number of units, at least 1, that splits share. A meter can't be
+/// dropped.
 pub trait Meter: Sized {
     /// How many reads were counted.
     ghost counted: { Self → ℕ };
@@ -26,14 +27,16 @@ pub trait Meter: Sized {
         ensures value { result ≡ held self.now }
         ensures some { 1 ≤ held self.now };
 
-    /// A piece with these units, which counts from 0.
+    /// A piece with these units, which counts from 0. The units before were below 2^32, so that the
+    /// piece can be joined again.
     fn split(&mut self, units: u32) -> Self
         requires some { 1 ≤ units }
         requires fewer { units < held self.old }
         ensures piece { held result ≡ units }
         ensures fresh { counted result ≡ 0 }
         ensures count { counted self.new ≡ counted self.old }
-        ensures rest { held self.new + units ≡ held self.old };
+        ensures rest { held self.new + units ≡ held self.old }
+        ensures below { held self.old < 2 ^ 32 };
 
     /// Takes another's count and units.
     fn join(&mut self, other: Self)

@@ -1,21 +1,28 @@
 // The rows of a run, as flat numbers.
-ghost use Rattle.std.specs.Prelude.{◌≡◌, ℕ, pos, ◌<◌, ◌≤◌, ◌^◌, ◌++◌, ◌∷◌, [], length, slice_index_or, IfOk, OnOk, OnErr};
+ghost use Rattle.std.specs.Prelude.{◌≡◌, ℕ, pos, ◌<◌, ◌≤◌, ◌^◌, ◌++◌, ◌∷◌, [], length};
+ghost use Rattle.std.specs.Prelude.{slice_index_or, IfOk, OnOk, OnErr};
 ghost use Rattle.std.specs.List.{All, flat_map, zip};
 ghost use Rattle.bolt_base.specs.RowTable.{entry_at};
+ghost use Rattle.bolt_base.specs.RowShape.{AreRectangular};
 
-use crate::items::Memory;
 use crate::lanes::Lanes;
+use crate::memory::Memory;
 use std::alloc::{AllocError, Global};
 use std::marker::Model;
 
-// The numbers of a row: those of the aggregates, vertex by vertex and lane by lane, and those of the values.
+/// The most rows of a run: those of the iterations 0 to 64.
+pub const MOST_ROWS: u32 = 65;
+
+// The numbers of a row: those of the aggregates, vertex by vertex and lane by lane, and those of
+// the values.
 #[derive(Debug, Drop)]
 struct FlatRow {
     aggs: Vec<i64>,
     vals: Vec<i64>,
 }
 
-/// The rows of a run from iteration 0 on, at most 65, each with an entry for each vertex: an aggregate and a value.
+/// The rows of a run from iteration 0 on, at most 65, each with an entry for each vertex: an
+/// aggregate and a value.
 #[derive(Debug, Drop)]
 pub struct Rows {
     vertices: u32,
@@ -54,9 +61,27 @@ impl Rows {
     /// The number of rows.
     pub fn len(&self) -> u32
         ensures len { result ≡ length self.now.rows }
-        ensures few { result ≤ 65 }
+        ensures few { result ≤ MOST_ROWS }
     {
         self.rows.len() as u32
+    }
+
+    /// The number of vertices, as `new` was given it: each row has one entry for each, both halves
+    /// of it one number for each lane, and there are at most `MOST_ROWS` rows.
+    pub fn vertices(&self) -> u32
+        ensures vertices { result ≡ self.now.vertices }
+        ensures shape { AreRectangular self.now }
+    {
+        self.vertices
+    }
+
+    /// The number of lanes, as `new` was given it, 1 to 8. `vertices` says how rows have it.
+    pub fn lanes(&self) -> u32
+        ensures lanes { result ≡ self.now.lanes }
+        ensures some { 1 ≤ result }
+        ensures narrow { result ≤ 8 }
+    {
+        self.lanes
     }
 
     /// A lane of the aggregate of vertex `v` at iteration `i`.
@@ -81,14 +106,18 @@ impl Rows {
         row.vals[v as usize * self.lanes as usize + lane as usize]
     }
 
-    /// Appends the row of these aggregates and values, one of each for each vertex. Nothing changes after `Memory`.
+    /// Appends the row of these aggregates and values, one of each for each vertex. Nothing changes
+    /// after `Memory`.
     pub fn add_row(&mut self, aggs: &[Lanes], vals: &[Lanes]) -> Result<(), Memory>
-        requires few { length self.old.rows < 65 }
+        requires few { length self.old.rows < MOST_ROWS }
         requires aggs { length aggs.now ≡ self.old.vertices }
         requires vals { length vals.now ≡ self.old.vertices }
         requires agg_lanes { All (λ agg. length agg ≡ self.old.lanes) aggs.now }
         requires val_lanes { All (λ val. length val ≡ self.old.lanes) vals.now }
-        ensures ok { OnOk result (self.new ≡ record self.old { rows = self.old.rows ++ zip aggs.now vals.now ∷ [] }) }
+        ensures ok { OnOk result (self.new ≡ record self.old {
+          rows = self.old.rows
+              ++ zip aggs.now vals.now ∷ [];
+        }) }
         ensures err { OnErr result (self.new ≡ self.old) }
     {
         let alloc = *self.rows.allocator();

@@ -1,12 +1,14 @@
 ghost use Rattle.std.specs.Prelude.{◌≡◌, ℕ, ℤ, ◌+◌, ◌<◌, ◌≤◌, ◌^◌, length};
 ghost use Rattle.bolt_base.specs.Laws.{OrderIsFree, PiecesAreAll};
+ghost use Rattle.bolt_base.specs.LawsOfChange.{OldEdgesAreParts};
+ghost use Rattle.bolt_base.specs.LawsOfLists.{ListIsFolded};
 
 use crate::LineCause::{
     Absent, Attribute, Degree, Edges, Present, Size, Syntax, Unfinished, Vertex, Weight,
 };
 use crate::{
-    AttrList, Edge, EdgeList, Gate, GraphData, Lanes, Meter, OpenGate, Rows, VisitMeter,
-    order_is_free, pieces_are_whole,
+    AttrList, Bytes, Edge, EdgeList, Gate, GraphData, Lanes, Meter, OpenGate, Rows, VisitMeter,
+    edges_are_parts, lists_are_graphs, order_is_free, pieces_are_whole,
 };
 use std::test::Fail;
 
@@ -30,6 +32,19 @@ fn lanes_keep_their_numbers(rt: HostRuntime) {
     assert_eq!(rt; lanes.width(), 3);
     assert!(rt; lanes.same(&lanes));
     assert!(rt; !lanes.same(&Lanes::zeros(3)));
+}
+
+#[test]
+fn numbers_are_printed(rt: HostRuntime) -> Result<(), Fail> {
+    let mut text = Bytes::from_slice(rt.alloc(), b"ends ")?;
+    text.push_decimal(4294967295)?;
+    text.extend_from_slice(b" ")?;
+    text.push_signed(-9223372036854775808)?;
+    assert_eq!(rt;
+        text.as_slice(),
+        b"ends 4294967295 -9223372036854775808".as_slice()
+    );
+    Ok(())
 }
 
 #[test]
@@ -74,7 +89,7 @@ fn rows_are_added(rt: HostRuntime) -> Result<(), Fail> {
     let mut rows = Rows::new(rt.alloc(), 2, 2);
     rows.add_row(&[pair(0, 0), pair(0, 0)], &[pair(1, 2), pair(3, 4)])?;
     rows.add_row(&[pair(5, 6), pair(7, 8)], &[pair(9, 10), pair(11, 12)])?;
-    assert_eq!(rt; rows.len(), 2);
+    assert_eq!(rt; (rows.len(), rows.vertices(), rows.lanes()), (2, 2, 2));
     for (iteration, vertex, lane, agg, val) in [
         (0, 1, 0, 0, 3),
         (1, 0, 0, 5, 9),
@@ -131,8 +146,12 @@ fn reads_are_counted(rt: HostRuntime) {
 fn laws_at_numbers()
     ensures order { OrderIsFree ℤ }
     ensures pieces { PiecesAreAll ℕ }
+    ensures parts { OldEdgesAreParts ℤ }
+    ensures folds { ListIsFolded ℤ }
 {
     order_is_free::<i64>();
+    edges_are_parts::<i64>();
+    lists_are_graphs::<i64>();
     pieces_are_whole::<u64>();
 }
 

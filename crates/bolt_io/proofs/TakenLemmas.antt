@@ -1,10 +1,15 @@
 -- Reads of a slot, one after another.
-use Rattle.std.specs.Prelude.{◌≡◌, ◌≢◌, ℕ, ◌+◌, ◌-◌, ◌<◌, ◌≤◌, min, List, [], ◌∷◌, ◌++◌, length, take, drop, Option, Some, None, IfSome, slice_set}
+use Rattle.std.specs.Prelude.{◌≡◌, ◌≢◌, ℕ, ◌+◌, ◌-◌, ◌<◌, ◌≤◌, min, List, [], ◌∷◌, ◌++◌, length}
+use Rattle.std.specs.Prelude.{take, drop, Option, Some, None, IfSome, slice_set}
 use Rattle.std.specs.Option.{option_map}
-use Rattle.std.proofs.Common.{refl, sym, ◌∙◌, ap, subst, arith, add-zero, add_assoc, length-append, length-drop, take-add}
-use Rattle.std.proofs.lemmas.List.{append-nil, set-get_or, get_or-set_same, take-append-drop, length-take-le, length-take, get_or_push, get_or_append_left, get_or-set_other}
+use Rattle.std.proofs.Common.{refl, sym, ◌∙◌, ap, subst, arith, add-zero, add_assoc, length-append}
+use Rattle.std.proofs.Common.{length-drop, take-add}
+use Rattle.std.proofs.lemmas.List.{append-nil, set-get_or, get_or-set_same, take-append-drop}
+use Rattle.std.proofs.lemmas.List.{length-take-le, length-take, get_or_push, get_or_append_left}
+use Rattle.std.proofs.lemmas.List.{get_or-set_other}
 use Rattle.std.proofs.Math.Seq.{set-set, drop-drop}
-use Rattle.bolt_io.specs.Told.{Told, bytes_of, no_slot, slot_at, taken_of, file_of, left, opened_at, taken_from, GivesNext, TellsSlots, Took, IsWithinFile, IsTakenWhole}
+use Rattle.bolt_io.specs.Told.{Told, bytes_of, no_slot, slot_at, taken_of, file_of, left, opened_at}
+use Rattle.bolt_io.specs.Told.{taken_from, GivesNext, TellsSlots, Took, IsWithinFile, IsTakenWhole}
 use Rattle.bolt_io.specs.declared.files.Slot.{Slot}
 
 module _ (k : ℕ) (t : Told) where
@@ -51,7 +56,9 @@ Took-none None k = record { told = refl; bytes = tt }
 Took-none (Some t) k = record { told = ap (λ (x : Told). Some x) (sym (taken_from-none k t)); bytes = refl }
 
 -- one read more
-pub Took-then : (a b c : Option Told) (k n : ℕ) (s buf : List ℕ) → IfSome a (λ t. k < length t.slots) → Took a b k s → c ≡ option_map (taken_from k n) b → IfSome b (λ t. GivesNext (left t k) n buf) → n ≤ length buf → Took a c k (s ++ take n buf)
+pub Took-then : (a b c : Option Told) (k n : ℕ) (s buf : List ℕ)
+    → IfSome a (λ t. k < length t.slots) → Took a b k s → c ≡ option_map (taken_from k n) b
+    → IfSome b (λ t. GivesNext (left t k) n buf) → n ≤ length buf → Took a c k (s ++ take n buf)
 Took-then None b c k n s buf below so_far told gives within = record { told = told ∙ ap (option_map (taken_from k n)) so_far.told; bytes = tt }
 Took-then (Some t) b c k n s buf below so_far told gives within =
     let m = length s in
@@ -66,7 +73,9 @@ Took-then (Some t) b c k n s buf below so_far told gives within =
     }
 
 -- a read of nothing, which is the end
-pub Took-end : (a b c : Option Told) (k : ℕ) (s buf : List ℕ) → IfSome a (λ t. k < length t.slots) → Took a b k s → c ≡ option_map (taken_from k 0) b → IfSome b (λ t. GivesNext (left t k) 0 buf) → Took a c k s × IfSome a (λ t. s ≡ left t k)
+pub Took-end : (a b c : Option Told) (k : ℕ) (s buf : List ℕ) → IfSome a (λ t. k < length t.slots)
+    → Took a b k s → c ≡ option_map (taken_from k 0) b → IfSome b (λ t. GivesNext (left t k) 0 buf)
+    → Took a c k s × IfSome a (λ t. s ≡ left t k)
 Took-end None b c k s buf below so_far told gives = (record { told = told ∙ ap (option_map (taken_from k 0)) so_far.told; bytes = tt }, tt)
 Took-end (Some t) b c k s buf below so_far told gives =
     let m = length s in
@@ -83,7 +92,8 @@ Took-end (Some t) b c k s buf below so_far told gives =
     )
 
 -- what was taken is no more than there was
-pub Took-le : (a b : Option Told) (k : ℕ) (s : List ℕ) → Took a b k s → IfSome a (λ t. length s ≤ length (left t k))
+pub Took-le : (a b : Option Told) (k : ℕ) (s : List ℕ) → Took a b k s
+    → IfSome a (λ t. length s ≤ length (left t k))
 Took-le None b k s so_far = tt
 Took-le (Some t) b k s so_far =
     let l = left t k in
@@ -91,7 +101,9 @@ Took-le (Some t) b k s so_far =
     omega arith
 
 -- where all that was left was taken, the file is taken whole
-pub Took-whole : (a b : Option Told) (k : ℕ) (s : List ℕ) → IfSome a (λ t. k < length t.slots) → Took a b k s → IfSome a (λ t. s ≡ left t k) → IfSome a (λ t. IsWithinFile t k → IfSome b (λ u. IsTakenWhole u k))
+pub Took-whole : (a b : Option Told) (k : ℕ) (s : List ℕ) → IfSome a (λ t. k < length t.slots)
+    → Took a b k s → IfSome a (λ t. s ≡ left t k)
+    → IfSome a (λ t. IsWithinFile t k → IfSome b (λ u. IsTakenWhole u k))
 Took-whole None b k s below so_far all = tt
 Took-whole (Some t) b k s below so_far all = λ (within : IsWithinFile t k).
     let m = length s in
@@ -102,7 +114,8 @@ Took-whole (Some t) b k s below so_far all = λ (within : IsWithinFile t k).
     subst (λ (o : Option Told). IfSome o (λ u. IsTakenWhole u k)) (sym so_far.told) whole
 
 -- a slot that was opened is told
-pub slot_told : (told : Option Told) (n k : ℕ) → TellsSlots told n → k < n → IfSome told (λ t. k < length t.slots)
+pub slot_told : (told : Option Told) (n k : ℕ) → TellsSlots told n → k < n
+    → IfSome told (λ t. k < length t.slots)
 slot_told None n k tells below = tt
 slot_told (Some t) n k tells below = omega (arith, tells)
 
@@ -129,22 +142,26 @@ module _ (name : List ℕ) (t : Told) where
   file_of-opened_at = ap (λ (y : Slot). bytes_of t.files y.name) at_end
 
   -- the slots before it stay
-  pub slot_at-opened_at : (j : ℕ) → j < length t.slots → slot_at (opened_at name t).slots j ≡ slot_at t.slots j
+  pub slot_at-opened_at : (j : ℕ) → j < length t.slots
+      → slot_at (opened_at name t).slots j ≡ slot_at t.slots j
   slot_at-opened_at j below = get_or_append_left t.slots _ no_slot j below
 
 -- the other slots stay while one is read
-pub slot_at-taken_from_other : (k n j : ℕ) (t : Told) → j ≢ k → slot_at (taken_from k n t).slots j ≡ slot_at t.slots j
+pub slot_at-taken_from_other : (k n j : ℕ) (t : Told) → j ≢ k
+    → slot_at (taken_from k n t).slots j ≡ slot_at t.slots j
 slot_at-taken_from_other k n j t other = get_or-set_other t.slots k j _ no_slot other
 
 -- what was taken whole stays so while its file and its slot stay
-pub IsTakenWhole-same : (t u : Told) (j : ℕ) → u.files ≡ t.files → slot_at u.slots j ≡ slot_at t.slots j → IsTakenWhole t j → IsTakenWhole u j
+pub IsTakenWhole-same : (t u : Told) (j : ℕ) → u.files ≡ t.files
+    → slot_at u.slots j ≡ slot_at t.slots j → IsTakenWhole t j → IsTakenWhole u j
 IsTakenWhole-same t u j files slots whole =
     let files_at : bytes_of u.files (slot_at u.slots j).name ≡ bytes_of t.files (slot_at t.slots j).name = cc in
     let taken : taken_of u j ≡ taken_of t j = cc in
     taken ∙ whole ∙ ap length (sym files_at)
 
 -- a slot that was just opened has nothing taken, and so no more than there is
-pub IsWithinFile-opened : (a b : Option Told) (name : List ℕ) (n : ℕ) → TellsSlots a n → b ≡ option_map (opened_at name) a → IfSome b (λ t. IsWithinFile t n)
+pub IsWithinFile-opened : (a b : Option Told) (name : List ℕ) (n : ℕ) → TellsSlots a n
+    → b ≡ option_map (opened_at name) a → IfSome b (λ t. IsWithinFile t n)
 IsWithinFile-opened None b name n tells told = subst (λ (o : Option Told). IfSome o (λ t. IsWithinFile t n)) (sym told) tt
 IsWithinFile-opened (Some t) b name n tells told =
     let none : taken_of (opened_at name t) n ≡ 0 = subst (λ m. taken_of (opened_at name t) m ≡ 0) tells (taken_of-opened_at name t) in

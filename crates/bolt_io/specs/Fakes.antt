@@ -35,9 +35,14 @@ with_call p = record { fails = p.fails; calls = one_more p.calls; faults = p.fau
 
 -- one call more was made, and failed
 abbrev pub with_failed_call : FaultPlan → FaultPlan
-with_failed_call p = record { fails = p.fails; calls = one_more p.calls; faults = one_more p.faults }
+with_failed_call p = record {
+  fails = p.fails;
+  calls = one_more p.calls;
+  faults = one_more p.faults;
+}
 
--- whether a shelf with a plan fails to open that name: the call is listed to fail, or there is no such file
+-- whether a shelf with a plan fails to open that name: the call is listed to fail, or there is no
+-- such file
 abbrev pub open_fails : FailingShelf → List ℕ → Bool
 open_fails s name = next_fails s.plan || not (has_file s.shelf.told.files name)
 
@@ -52,7 +57,10 @@ write_length s text = min (length text) s.piece
 -- a name has these bytes from now on
 abbrev pub with_file : List ℕ → List ℕ → ShelfState → ShelfState
 with_file name bytes s = record {
-  told = record { files = record { name = name; bytes = bytes } ∷ s.told.files; slots = s.told.slots };
+  told = record {
+    files = record { name = name; bytes = bytes } ∷ s.told.files;
+    slots = s.told.slots;
+  };
   piece = s.piece;
 }
 

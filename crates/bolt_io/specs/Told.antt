@@ -1,11 +1,13 @@
 -- What a shelf tells: its files, and the slots that were opened.
-use Rattle.std.specs.Prelude.{◌≡◌, ℕ, ◌+◌, ◌≤◌, List, [], ◌∷◌, ◌++◌, length, take, drop, Option, Bool, true, false, IfSome, if◌then◌else◌, slice_set, slice_index_or}
+use Rattle.std.specs.Prelude.{◌≡◌, ℕ, ◌+◌, ◌≤◌, List, [], ◌∷◌, ◌++◌, length, take, drop, Option}
+use Rattle.std.specs.Prelude.{Bool, true, false, IfSome, if◌then◌else◌, slice_set, slice_index_or}
 use Rattle.std.specs.Option.{option_map}
 use Rattle.std.specs.Str.{bytes_eq}
 use Rattle.bolt_io.specs.declared.files.File.{File}
 use Rattle.bolt_io.specs.declared.files.Slot.{Slot}
 
--- the files by name, of which the first with a name is the one that counts, and the slots in the order in which they
+-- the files by name, of which the first with a name is the one that counts, and the slots in the
+-- order in which they
 -- were opened
 pub record Told : Type 0 where
   pub files : List File
@@ -42,16 +44,23 @@ left t k = drop (taken_of t k) (file_of t k)
 
 -- one slot more, at the first byte of the file of that name
 abbrev pub opened_at : List ℕ → Told → Told
-opened_at name t = record { files = t.files; slots = t.slots ++ record { name = name; taken = 0 } ∷ [] }
+opened_at name t = record {
+  files = t.files;
+  slots = t.slots ++ record { name = name; taken = 0 } ∷ [];
+}
 
 -- n bytes more were taken from slot k
 abbrev pub taken_from : ℕ → ℕ → Told → Told
 taken_from k n t = record {
   files = t.files;
-  slots = slice_set t.slots k (record { name = (slot_at t.slots k).name; taken = (slot_at t.slots k).taken + n });
+  slots = slice_set t.slots k (record {
+    name = (slot_at t.slots k).name;
+    taken = (slot_at t.slots k).taken + n;
+  });
 }
 
--- a read gave the next n bytes of the rest in the first n places of the buffer, and none only at the end
+-- a read gave the next n bytes of the rest in the first n places of the buffer, and none only at
+-- the end
 pub record GivesNext (rest : List ℕ) (n : ℕ) (buf : List ℕ) : Type 0 where
   pub bytes : take n buf ≡ take n rest
   pub within : n ≤ length rest

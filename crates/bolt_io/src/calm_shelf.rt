@@ -1,5 +1,6 @@
 // A shelf in memory that never fails.
-ghost use Rattle.std.specs.Prelude.{◌≡◌, ◌<◌, ◌≤◌, ◌^◌, [], min, length, drop, OnOk, OnErr, IfOk, IsOk, IsOkUnless};
+ghost use Rattle.std.specs.Prelude.{◌≡◌, ◌<◌, ◌≤◌, ◌^◌, [], min, length, drop, OnOk, OnErr, IfOk};
+ghost use Rattle.std.specs.Prelude.{IsOk, IsOkUnless};
 ghost use Rattle.bolt_io.specs.Told.{bytes_of, has_file, left, GivesNext};
 ghost use Rattle.bolt_io.specs.Fakes.{with_file, with_slot, with_taken, read_length};
 
@@ -25,7 +26,8 @@ impl Model for CalmShelf {
 
     ghost Value = { ShelfState };
 
-    ghost view = { λ s. record { told = record { files = s.files.items; slots = s.slots.items }; piece = s.piece } };
+    ghost view = { λ s. record
+        { told = record { files = s.files.items; slots = s.slots.items }; piece = s.piece } };
 
     ghost invariant = { λ s. 1 ≤ s.piece };
 }

@@ -1,5 +1,5 @@
-//! Where bytes come from and go to: shelves of files and sinks as traits, both in memory for tests, and calls that read
-//! or write all of a text.
+//! Where bytes come from and go to: shelves of files and sinks as traits, both in memory for tests,
+//! and calls that read or write all of a text.
 #![tactic(auto)]
 
 mod calm_shelf;

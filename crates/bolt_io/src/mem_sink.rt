@@ -1,6 +1,8 @@
 // A sink in memory whose calls can fail.
-ghost use Rattle.std.specs.Prelude.{◌≡◌, ◌<◌, ◌≤◌, ◌↔◌, [], ◌∷◌, ◌++◌, length, take, IsTrue, OnOk, OnErr, IfOk, IsErrOf};
-ghost use Rattle.bolt_io.specs.Fakes.{with_text, write_length, next_fails, with_call, with_failed_call};
+ghost use Rattle.std.specs.Prelude.{◌≡◌, ◌<◌, ◌≤◌, ◌↔◌, [], ◌∷◌, ◌++◌, length, take, IsTrue, OnOk};
+ghost use Rattle.std.specs.Prelude.{OnErr, IfOk, IsErrOf};
+ghost use Rattle.bolt_io.specs.Fakes.{with_text, write_length, next_fails, with_call};
+ghost use Rattle.bolt_io.specs.Fakes.{with_failed_call};
 
 use crate::calm_sink::CalmSink;
 use crate::fault::SinkFault;
@@ -29,7 +31,11 @@ impl MemSink {
     /// Nothing was written, a write takes `piece` bytes at most, and no call is to fail.
     pub fn new(alloc: Global, piece: usize) -> Self
         requires { 1 ≤ piece }
-        ensures { result ≡ record { sink = record { bytes = []; piece = piece }; plan = record { fails = []; calls = 0; faults = 0 } } }
+        ensures { result
+            ≡ record {
+              sink = record { bytes = []; piece = piece };
+              plan = record { fails = []; calls = 0; faults = 0 };
+            } }
     {
         MemSink {
             sink: CalmSink::new(alloc, piece),
@@ -39,7 +45,8 @@ impl MemSink {
 
     /// Adds a call that is to fail. The sink is unchanged after `Memory`.
     pub fn fail_at(&mut self, call: u64) -> Result<(), Memory>
-        ensures ok { OnOk result (self.new ≡ record self.old { plan = record self.old.plan { fails = self.old.plan.fails ++ call ∷ [] } }) }
+        ensures ok { OnOk result (self.new ≡ record self.old
+            { plan = record self.old.plan { fails = self.old.plan.fails ++ call ∷ [] } }) }
         ensures err { OnErr result (self.new ≡ self.old) }
     {
         self.plan.fail_at(call)
@@ -66,11 +73,16 @@ impl Sink for MemSink {
     fn write(&mut self, piece: &[u8]) -> Result<usize, SinkFault>
         requires { 0 < length piece.now }
         ensures fails { IsErrOf result SinkFault.Failed ↔ IsTrue (next_fails self.old.plan) }
-        ensures failed { IsErrOf result SinkFault.Failed → self.new ≡ record self.old { plan = with_failed_call self.old.plan } }
-        ensures memory { IsErrOf result SinkFault.Memory → self.new ≡ record self.old { plan = with_call self.old.plan } }
+        ensures failed { IsErrOf result SinkFault.Failed
+            → self.new ≡ record self.old { plan = with_failed_call self.old.plan } }
+        ensures memory { IsErrOf result SinkFault.Memory
+            → self.new ≡ record self.old { plan = with_call self.old.plan } }
         ensures some { IfOk result (λ n. 1 ≤ n) }
         ensures longest { IfOk result (λ n. n ≡ write_length self.old.sink piece.now) }
-        ensures wrote { IfOk result (λ n. self.new ≡ record { sink = with_text (take n piece.now) self.old.sink; plan = with_call self.old.plan }) }
+        ensures wrote { IfOk result (λ n. self.new ≡ record {
+          sink = with_text (take n piece.now) self.old.sink;
+          plan = with_call self.old.plan;
+        }) }
     {
         if self.plan.next_call() {
             self.plan.add_fault();

@@ -6,8 +6,8 @@ ghost use Rattle.bolt_io.specs.Faults.{one_more};
 use bolt_base::{Items, Memory};
 use std::alloc::Global;
 
-/// The numbers of the calls that are to fail, counted from 1, and how many calls were made and failed. Both counts stay at
-/// the greatest `u64` once they are there.
+/// The numbers of the calls that are to fail, counted from 1, and how many calls were made and
+/// failed. Both counts stay at the greatest `u64` once they are there.
 #[derive(Debug, Drop)]
 pub struct FaultPlan {
     pub fails: Items<u64>,

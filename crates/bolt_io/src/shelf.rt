@@ -1,12 +1,14 @@
 // A shelf of files that are read in pieces.
-ghost use Rattle.std.specs.Prelude.{◌≡◌, ℕ, ◌+◌, ◌<◌, ◌≤◌, ◌^◌, length, Option, IfOk, OnOk, OnErr, IfSome, IsErrOf};
+ghost use Rattle.std.specs.Prelude.{◌≡◌, ℕ, ◌+◌, ◌<◌, ◌≤◌, ◌^◌, length, Option, IfOk, OnOk, OnErr};
+ghost use Rattle.std.specs.Prelude.{IfSome, IsErrOf};
 ghost use Rattle.std.specs.Option.{option_map};
 ghost use Rattle.bolt_io.specs.Faults.{Rose};
 ghost use Rattle.bolt_io.specs.Told.{Told, opened_at, taken_from, left, GivesNext, TellsSlots};
 
 use crate::fault::{OpenFault, ShelfFault};
 
-/// Files that are opened by name into slots, and read from their first byte on. A shelf may tell what its files hold.
+/// Files that are opened by name into slots, and read from their first byte on. A shelf may tell
+/// what its files hold.
 pub trait Shelf {
     /// How often the shelf has failed, as far as a `u64` counts.
     ghost faults: { Self → ℕ };
@@ -30,7 +32,8 @@ pub trait Shelf {
         ensures calm { OnOk result (faults self.new ≡ faults self.old) }
         ensures later { faults self.old ≤ faults self.new };
 
-    /// Takes the next bytes of a slot into the first places of `buf`: none exactly where the slot's end was reached.
+    /// Takes the next bytes of a slot into the first places of `buf`: none exactly where the slot's
+    /// end was reached.
     fn read(&mut self, slot: u32, buf: &mut [u8]) -> Result<usize, ShelfFault>
         requires slot { slot < opened self.old }
         requires room { 0 < length buf.old }

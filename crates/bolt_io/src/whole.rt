@@ -28,10 +28,13 @@ pub fn read_whole<S: Shelf>(alloc: Global, shelf: &mut S, slot: u32) -> Result<V
     ensures all { IfOk result (λ bytes. IfSome (S.told shelf.old) (λ t. bytes.items ≡ left t slot)) }
     ensures took { IfOk result (λ bytes. Took (S.told shelf.old) (S.told shelf.new) slot bytes.items) }
     ensures short { IfOk result (λ bytes. length bytes.items < 2 ^ 40) }
-    ensures to_end { OnOk result (IfSome (S.told shelf.old) (λ t. IsWithinFile t slot → IfSome (S.told shelf.new) (λ u. IsTakenWhole u slot))) }
+    ensures to_end { OnOk result (IfSome (S.told shelf.old)
+        (λ t. IsWithinFile t slot → IfSome (S.told shelf.new) (λ u. IsTakenWhole u slot))) }
     ensures most { IfErr result (IfTurns (λ taken. taken ≡ 2 ^ 40)) }
-    ensures long { IfErr result (IfTurns (λ taken. IfSome (S.told shelf.old) (λ t. taken ≤ length (left t slot)))) }
-    ensures long_taken { IfErr result (IfTurns (λ taken. S.told shelf.new ≡ option_map (taken_from slot taken) (S.told shelf.old))) }
+    ensures long { IfErr result (IfTurns
+        (λ taken. IfSome (S.told shelf.old) (λ t. taken ≤ length (left t slot)))) }
+    ensures long_taken { IfErr result (IfTurns
+        (λ taken. S.told shelf.new ≡ option_map (taken_from slot taken) (S.told shelf.old))) }
     ensures part { TookSome (S.told shelf.old) (S.told shelf.new) slot }
     ensures opened { S.opened shelf.new ≡ S.opened shelf.old }
     ensures calm { OnOk result (S.faults shelf.new ≡ S.faults shelf.old) }

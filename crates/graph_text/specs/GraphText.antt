@@ -96,9 +96,9 @@ judged None number rest = rest
 judged (Some why) number rest = Err (record { line = number; cause = why })
 
 -- the draft of lines, of which the first one has that number
-abbrev pub read : Limits → Draft → ℕ → List (Option (List ℕ)) → Result Draft BadLine
-read l d number [] = Ok d
-read l d number (line ∷ lines) = judged (cause l d (graph_line line)) number (read l (taken_in d (graph_line line)) (number + 1) lines)
+abbrev pub draft_after : Limits → Draft → ℕ → List (Option (List ℕ)) → Result Draft BadLine
+draft_after l d number [] = Ok d
+draft_after l d number (line ∷ lines) = judged (cause l d (graph_line line)) number (draft_after l (taken_in d (graph_line line)) (number + 1) lines)
 
 -- the graph of a draft: without a told number of vertices it has those up to the greatest one that is named
 abbrev pub complete : Draft → Graph
@@ -110,8 +110,8 @@ completed (Err bad) = Err bad
 
 -- the graph of a text, or its first bad line
 abbrev pub graph_of : Limits → List ℕ → Result Graph BadLine
-graph_of l text = completed (read l blank 1 (seen_lines text))
+graph_of l text = completed (draft_after l blank 1 (seen_lines text))
 
 -- no line that an LF ends is bad
 abbrev pub EndedLinesAreGood : Limits → List ℕ → Type 0
-EndedLinesAreGood l text = IsOk (read l blank 1 (seen_ended_lines text))
+EndedLinesAreGood l text = IsOk (draft_after l blank 1 (seen_ended_lines text))

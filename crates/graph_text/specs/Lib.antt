@@ -6,4 +6,6 @@ pub mod EdgeIndex
 pub mod DraftCode
 pub mod Refusals
 pub mod DraftGood
+pub mod ReadCode
+pub mod OpenCode
 pub mod BatchCode

@@ -1,5 +1,6 @@
 -- The batches of a text.
-use Rattle.std.specs.Prelude.{ℕ, ℤ, pos, ◌+◌, is_some, nat_lt, if◌then◌else◌, List, [], ◌∷◌, ◌++◌, length, Option, Some, None, codes}
+use Rattle.std.specs.Prelude.{ℕ, ℤ, pos, ◌+◌, Bool, true, false, nat_lt, if◌then◌else◌, List, [], ◌∷◌, map, length, take, slice_get, Option, Some, None, unwrap_or, codes}
+use Rattle.std.specs.List.{prefix_len, take_while, slice_split}
 use Rattle.std.specs.Str.{bytes_eq}
 use Rattle.bolt_base.specs.declared.edge.Edit.{Edit}
 use Rattle.bolt_base.specs.declared.edge.Edit.TheVariants.{Add, Cut, Attr}
@@ -12,7 +13,7 @@ use Rattle.graph_text.specs.declared.bad_line.BadLine.{BadLine}
 use Rattle.graph_text.specs.declared.stream_lines.StreamLine.{StreamLine}
 use Rattle.graph_text.specs.declared.stream_lines.StreamLine.TheVariants.{Empty, Edit as EditLine, Commit, Unknown}
 use Rattle.graph_text.specs.declared.batch_text.BatchText.{BatchText}
-use Rattle.graph_text.specs.declared.batch_text.OpenBatch.{OpenBatch}
+use Rattle.graph_text.specs.declared.batch_reader.TheConstants.{MOST_EDITS}
 
 -- the forms of a line: `+ U V` or `+ U V W`, whose weight is 1 where it is left out, `- U V`, `v U A`, and `commit`
 abbrev pub add_line : Option ℕ → Option ℕ → Option ℤ → StreamLine
@@ -56,55 +57,102 @@ abbrev pub stream_line : Option (List ℕ) → StreamLine
 stream_line None = Unknown
 stream_line (Some line) = form_of (words line)
 
--- a batch of which no line was read
-abbrev pub unopened : OpenBatch
-unopened = record { first_line = None; edits = []; lines = []; bad = None }
+-- whether a line is empty, ends a batch, or has one of the forms
+abbrev pub is_empty : StreamLine → Bool
+is_empty Empty = true
+is_empty (EditLine e) = false
+is_empty Commit = false
+is_empty Unknown = false
+
+abbrev pub is_commit : StreamLine → Bool
+is_commit Empty = false
+is_commit (EditLine e) = false
+is_commit Commit = true
+is_commit Unknown = false
+
+abbrev pub is_known : StreamLine → Bool
+is_known Empty = true
+is_known (EditLine e) = true
+is_known Commit = true
+is_known Unknown = false
+
+-- the edits of some lines
+abbrev pub edits_in : List StreamLine → List Edit
+edits_in [] = []
+edits_in (Empty ∷ lines) = edits_in lines
+edits_in (EditLine e ∷ lines) = e ∷ edits_in lines
+edits_in (Commit ∷ lines) = edits_in lines
+edits_in (Unknown ∷ lines) = edits_in lines
+
+-- the number of the line of each of them, where the first line has the number n
+abbrev pub edit_numbers : ℕ → List StreamLine → List ℕ
+edit_numbers n [] = []
+edit_numbers n (Empty ∷ lines) = edit_numbers (n + 1) lines
+edit_numbers n (EditLine e ∷ lines) = n ∷ edit_numbers (n + 1) lines
+edit_numbers n (Commit ∷ lines) = edit_numbers (n + 1) lines
+edit_numbers n (Unknown ∷ lines) = edit_numbers (n + 1) lines
+
+-- the lines before the first unknown one
+abbrev pub known_lines : List StreamLine → List StreamLine
+known_lines lines = take_while is_known lines
 
 abbrev pub bad_at : ℕ → LineCause → Option BadLine
 bad_at number why = Some (record { line = number; cause = why })
 
--- the first line of a batch is its first one that isn't empty
-abbrev pub first_of : Option ℕ → ℕ → ℕ
-first_of None number = number
-first_of (Some first) number = first
+-- the first unknown line
+abbrev pub first_unknown : ℕ → List StreamLine → Option BadLine
+first_unknown n lines =
+    if nat_lt (length (known_lines lines)) (length lines) then bad_at (n + length (known_lines lines)) Syntax else None
 
-abbrev pub begun_at : OpenBatch → ℕ → OpenBatch
-begun_at b number = record b { first_line = Some (first_of b.first_line number) }
+abbrev pub too_many_or : Option ℕ → Option BadLine → Option BadLine
+too_many_or None unknown = unknown
+too_many_or (Some number) unknown = bad_at number Size
 
--- one edit more; a batch has 1,000,000 at most
-abbrev pub with_room : OpenBatch → ℕ → Edit → OpenBatch
-with_room b number e =
-    if nat_lt (length b.edits) 1000000 then record b { edits = b.edits ++ e ∷ []; lines = b.lines ++ number ∷ [] }
-    else record b { bad = bad_at number Size }
+-- the bad line of a batch: the edit after the 1,000,000th before the first unknown line, or else that line
+abbrev pub bad_line : ℕ → List StreamLine → Option BadLine
+bad_line n lines = too_many_or (slice_get (edit_numbers n (known_lines lines)) MOST_EDITS) (first_unknown n lines)
 
--- the edits are those before the first bad line
-unfoldable pub with_edit : OpenBatch → ℕ → Edit → OpenBatch
-with_edit b number e = if is_some b.bad then b else with_room (begun_at b number) number e
+-- the number of the first line that isn't empty, if there is one
+abbrev pub first_line : ℕ → List StreamLine → Option ℕ
+first_line n lines = if nat_lt (prefix_len is_empty lines) (length lines) then Some (n + prefix_len is_empty lines) else None
 
-unfoldable pub with_unknown : OpenBatch → ℕ → OpenBatch
-with_unknown b number = if is_some b.bad then b else record (begun_at b number) { bad = bad_at number Syntax }
+-- the batch of the lines before a `commit`: its first line is the first that isn't empty, or the `commit`, and its edits are those
+-- before its bad line
+abbrev pub batch_of : ℕ → List StreamLine → BatchText
+batch_of n lines = record {
+  first_line = unwrap_or (first_line n lines) (n + length lines);
+  edits = take MOST_EDITS (edits_in (known_lines lines));
+  lines = take MOST_EDITS (edit_numbers n (known_lines lines));
+  bad = bad_line n lines;
+}
 
--- the batch that a `commit` ends
-unfoldable pub committed : OpenBatch → ℕ → BatchText
-committed b number = record { first_line = first_of b.first_line number; edits = b.edits; lines = b.lines; bad = b.bad }
-
--- lines behind the last `commit` are one more batch, which has no end
+-- lines behind the last `commit` that aren't all empty are one more batch, which has no end
 abbrev pub unfinished : Option ℕ → List BatchText
 unfinished None = []
 unfinished (Some first) = record { first_line = first; edits = []; lines = []; bad = bad_at first Unfinished } ∷ []
 
--- what a line makes of the batch that is open, and the batches of the lines behind it
-abbrev pub behind : StreamLine → OpenBatch → ℕ → (OpenBatch → List BatchText) → List BatchText
-behind Empty b number rest = rest b
-behind (EditLine e) b number rest = rest (with_edit b number e)
-behind Commit b number rest = committed b number ∷ rest unopened
-behind Unknown b number rest = rest (with_unknown b number)
+-- the batches of the parts of a stream: a `commit` ends each part but the last one, of which `last` makes a batch or none, by the
+-- number of its first line that isn't empty
+abbrev pub batches_by : (Option ℕ → List BatchText) → ℕ → List (List StreamLine) → List BatchText
+batches_by last n [] = []
+batches_by last n (part ∷ []) = last (first_line n part)
+batches_by last n (part ∷ next ∷ parts) = batch_of n part ∷ batches_by last (n + length part + 1) (next ∷ parts)
 
--- the batches of lines, of which the first one has that number
-abbrev pub batches_from : OpenBatch → ℕ → List (Option (List ℕ)) → List BatchText
-batches_from b number [] = unfinished b.first_line
-batches_from b number (line ∷ lines) = behind (stream_line line) b number (λ o. batches_from o (number + 1) lines)
+-- the lines of a stream, split at each `commit`
+abbrev pub parts_of : List (Option (List ℕ)) → List (List StreamLine)
+parts_of lines = slice_split is_commit (map stream_line lines)
+
+abbrev pub no_batch : Option ℕ → List BatchText
+no_batch first = []
+
+-- the batches of some lines, of which the first has the number n
+abbrev pub batches_of : ℕ → List (Option (List ℕ)) → List BatchText
+batches_of n lines = batches_by unfinished n (parts_of lines)
+
+-- those of them that a `commit` ends
+abbrev pub ended_batches_of : ℕ → List (Option (List ℕ)) → List BatchText
+ended_batches_of n lines = batches_by no_batch n (parts_of lines)
 
 -- the batches of a text
 abbrev pub batches : List ℕ → List BatchText
-batches text = batches_from unopened 1 (seen_lines text)
+batches text = batches_of 1 (seen_lines text)

@@ -1,11 +1,14 @@
 // The batch reader.
-ghost use Rattle.std.specs.Prelude.{◌≡◌, ◌+◌, ◌-◌, ◌<◌, ◌≤◌, ◌^◌, ℕ, [], ◌∷◌, is_some, Some, None, Option, length, IfOk, IfErr, OnOk, OnErr, IfSome, IfNone, MatchOption};
+ghost use Rattle.std.specs.Prelude.{◌≡◌, ◌+◌, ◌-◌, ◌<◌, ◌≤◌, ℕ, [], ◌∷◌, is_some, Some, None, Err, Option, length, IfOk, IfErr, OnOk, OnErr, IfSome, IfNone, MatchOption};
 ghost use Rattle.std.specs.Option.{option_map};
-ghost use Rattle.bolt_io.specs.Told.{left};
-ghost use Rattle.text_lines.specs.Feed.{Advances, IsAtEnd, NeedsMore};
-ghost use Rattle.text_lines.specs.Answers.{BlamesShelf, IfTurns};
-ghost use Rattle.graph_text.specs.StreamText.{unopened, begun_at, with_edit as with_edit_of, with_unknown as with_unknown_of, committed as committed_of, unfinished as unfinished_of, batches_from};
-ghost use Rattle.graph_text.specs.BatchCode.{IsPaired, IsBatchStuck, Reader, batches_ahead, with_line};
+ghost use Rattle.std.specs.Result.{result_err};
+ghost use Rattle.bolt_io.specs.declared.whole.TheConstants.{MOST_BYTES};
+ghost use Rattle.text_lines.specs.Feed.{IsAtEnd, fresh_feed};
+ghost use Rattle.text_lines.specs.Reading.{FeedReads, IfTurns, IfMoreWanted, IsSpent};
+ghost use Rattle.graph_text.specs.declared.batch_reader.TheConstants.{MOST_EDITS};
+ghost use Rattle.graph_text.specs.StreamText.{unfinished as unfinished_of};
+ghost use Rattle.graph_text.specs.OpenCode.{IsPaired, unopened, begun_at, with_edit as with_edit_of, with_unknown as with_unknown_of, with_line, committed as committed_of};
+ghost use Rattle.graph_text.specs.BatchCode.{Reader, batches_ahead, IsBatchStuck, IsFirstEnded, NoBatchEnds};
 
 use crate::bad_line::BadLine;
 use crate::batch_text::{BatchText, OpenBatch};
@@ -16,8 +19,8 @@ use std::alloc::Global;
 use std::marker::Model;
 use text_lines::{FeedError, LineFeed};
 
-/// The most edits of a batch.
-const MOST_EDITS: usize = 1_000_000;
+/// How many edits a batch has at most.
+pub const MOST_EDITS: usize = 1_000_000;
 
 impl OpenBatch {
     /// A batch of which no line was read.
@@ -42,7 +45,7 @@ impl OpenBatch {
     }
 
     // Takes an edit in.
-    #[tactic(auto, unfolding(crate::specs::StreamText::with_edit))]
+    #[tactic(auto, unfolding(crate::specs::OpenCode::with_edit))]
     fn take_edit(&mut self, number: u64, edit: Edit) -> Result<(), Memory>
         requires paired { IsPaired self.old }
         ensures taken { OnOk result (self.new ≡ with_edit_of self.old number edit) }
@@ -65,7 +68,7 @@ impl OpenBatch {
     }
 
     // Takes in a line that has none of the forms.
-    #[tactic(auto, unfolding(crate::specs::StreamText::with_unknown))]
+    #[tactic(auto, unfolding(crate::specs::OpenCode::with_unknown))]
     fn take_unknown(&mut self, number: u64)
         requires paired { IsPaired self.old }
         ensures taken { self.new ≡ with_unknown_of self.old number }
@@ -82,7 +85,7 @@ impl OpenBatch {
     }
 
     // Takes in a line that ends no batch.
-    #[tactic(auto, unfolding(crate::specs::BatchCode::with_line))]
+    #[tactic(auto, unfolding(crate::specs::OpenCode::with_line))]
     fn take_line(&mut self, number: u64, line: StreamLine) -> Result<(), Memory>
         requires paired { IsPaired self.old }
         ensures taken { OnOk result (self.new ≡ with_line self.old number line) }
@@ -102,11 +105,11 @@ impl OpenBatch {
     }
 
     // The batch that a `commit` ends.
-    #[tactic(auto, unfolding(crate::specs::StreamText::committed))]
+    #[tactic(auto, unfolding(crate::specs::OpenCode::committed))]
     fn commit(self, number: u64) -> BatchText
         requires paired { IsPaired self }
         ensures batch { result ≡ committed_of self number }
-        ensures few { length result.edits ≤ 1000000 }
+        ensures few { length result.edits ≤ MOST_EDITS }
         ensures paired { length result.lines ≡ length result.edits }
     {
         BatchText {
@@ -120,7 +123,7 @@ impl OpenBatch {
     // The batch that has no end, where one of its lines isn't empty.
     fn leave_open(self, alloc: Global) -> Option<BatchText>
         ensures batch { MatchOption result (unfinished_of self.first_line ≡ []) (λ b. unfinished_of self.first_line ≡ b ∷ []) }
-        ensures few { IfSome result (λ b. length b.edits ≤ 1000000) }
+        ensures few { IfSome result (λ b. length b.edits ≤ MOST_EDITS) }
         ensures paired { IfSome result (λ b. length b.lines ≡ length b.edits) }
     {
         let first_line = self.first_line?;
@@ -143,30 +146,23 @@ fn read_batch<S: Shelf>(
     shelf: &mut S,
 ) -> Result<Option<BatchText>, FeedError>
     requires slot { feed.old.slot < S.opened shelf.old }
-    ensures batch { IfOk result (λ r. IfSome r (λ b. batches_ahead (S.told shelf.old) feed.old ≡ option_map (λ rest. b ∷ rest) (batches_ahead (S.told shelf.new) feed.new))) }
-    ensures none { IfOk result (λ r. IfNone r (batches_ahead (S.told shelf.old) feed.old ≡ option_map (λ _. []) (S.told shelf.new))) }
+    ensures batch { IfOk result (λ r. IfSome r (λ b. batches_ahead (S.told shelf.old) feed.old
+        ≡ option_map (λ rest. b ∷ rest) (batches_ahead (S.told shelf.new) feed.new))) }
+    ensures none { IfOk result (λ r. IfNone r (batches_ahead (S.told shelf.old) feed.old
+        ≡ option_map (λ _. []) (S.told shelf.new))) }
     ensures end { IfOk result (λ r. IfNone r (IsAtEnd (S.told shelf.new) feed.new)) }
-    ensures few { IfOk result (λ r. IfSome r (λ b. length b.edits ≤ 1000000)) }
+    ensures few { IfOk result (λ r. IfSome r (λ b. length b.edits ≤ MOST_EDITS)) }
     ensures paired { IfOk result (λ r. IfSome r (λ b. length b.lines ≡ length b.edits)) }
-    ensures slot { feed.new.slot ≡ feed.old.slot }
-    ensures no_fewer_lines { feed.old.lines ≤ feed.new.lines }
     ensures more_lines { IfOk result (λ r. IfSome r (λ _. feed.old.lines + 1 ≤ feed.new.lines)) }
-    ensures most_lines { feed.new.lines ≤ 2 ^ 40 }
-
-    // How many bytes were taken.
-    ensures advances { Advances (S.told shelf.old) (S.told shelf.new) feed.old.slot (feed.new.taken - feed.old.taken) }
-    ensures later { feed.old.taken ≤ feed.new.taken }
-    ensures most { feed.new.taken ≤ 2 ^ 40 }
-    ensures fewer { IfOk result (λ r. IfNone r (feed.new.taken < 2 ^ 40)) }
-
-    // The errors.
-    ensures turns { IfErr result (IfTurns (λ n. (n ≡ 2 ^ 40) × (feed.new.taken ≡ 2 ^ 40) × NeedsMore feed.new)) }
+    ensures reads { FeedReads S.told S.opened S.faults shelf.old shelf.new feed.old feed.new (result_err result) }
+    ensures fewer { IfOk result (λ r. IfNone r (feed.new.taken < MOST_BYTES)) }
+    ensures first { IfOk result (λ r. IfSome r (λ b. (most : ℕ) → feed.new.taken ≤ most
+        → IsFirstEnded b most (S.told shelf.old) (S.told shelf.new) feed.old feed.new)) }
+    ensures unended { IfErr result (IfMoreWanted
+        (IfSome (S.told shelf.old) (NoBatchEnds feed.new.taken feed.old))) }
+    ensures due { IsSpent feed.old → result ≡ Err (FeedError.Turns MOST_BYTES) }
     ensures stuck { IfErr result (IfTurns (λ _. IfSome (S.told shelf.old) (IsBatchStuck feed.old))) }
     ensures not_stuck { OnOk result (IfSome (S.told shelf.old) (λ t. ¬ IsBatchStuck feed.old t)) }
-    ensures cause { IfErr result (BlamesShelf (S.faults shelf.old) (S.faults shelf.new)) }
-    ensures calm { OnOk result (S.faults shelf.new ≡ S.faults shelf.old) }
-    ensures no_fewer_faults { S.faults shelf.old ≤ S.faults shelf.new }
-    ensures opened { S.opened shelf.new ≡ S.opened shelf.old }
 {
     let mut open = OpenBatch::new(alloc);
     'lines: loop {
@@ -179,9 +175,7 @@ fn read_batch<S: Shelf>(
             feed.skip(found);
             return Ok(Some(open.commit(number)));
         }
-        let Ok(()) = open.take_line(number, line) else {
-            return Err(FeedError::Memory);
-        };
+        open.take_line(number, line)?;
         feed.skip(found);
     }
 }
@@ -196,7 +190,9 @@ pub struct BatchReader {
 
 impl Model for BatchReader {
     ghost use Rattle.std.specs.Prelude.{◌≤◌};
-    ghost use Rattle.graph_text.specs.BatchCode.{Reader};
+    ghost use Rattle.graph_text.specs.StreamText.{unfinished as unfinished_of};
+ghost use Rattle.graph_text.specs.OpenCode.{IsPaired, unopened, begun_at, with_edit as with_edit_of, with_unknown as with_unknown_of, with_line, committed as committed_of};
+ghost use Rattle.graph_text.specs.BatchCode.{Reader};
 
     ghost Value = { Reader };
 
@@ -208,7 +204,7 @@ impl Model for BatchReader {
 impl BatchReader {
     /// A reader of the batches of a slot. It takes no memory.
     pub fn new(alloc: Global, slot: u32) -> BatchReader
-        ensures { result ≡ record { feed = record { slot = slot; pending = []; lines = 0; taken = 0 }; batches = 0 } }
+        ensures { result ≡ record { feed = fresh_feed slot; batches = 0 } }
     {
         BatchReader {
             alloc,
@@ -218,35 +214,35 @@ impl BatchReader {
     }
 
     /// The next batch, or None exactly where no further batch is in the text, which was read to its end. After an error the
-    /// batch that was begun is lost.
+    /// batch that was begun is lost. `Turns` comes exactly where 2^40 bytes were taken, no line that ends in them ends the
+    /// batch, and another read is needed.
     pub fn next<S: Shelf>(&mut self, shelf: &mut S) -> Result<Option<BatchText>, FeedError>
         requires slot { self.old.feed.slot < S.opened shelf.old }
-        ensures batch { IfOk result (λ r. IfSome r (λ b. batches_ahead (S.told shelf.old) self.old.feed ≡ option_map (λ rest. b ∷ rest) (batches_ahead (S.told shelf.new) self.new.feed))) }
-        ensures none { IfOk result (λ r. IfNone r (batches_ahead (S.told shelf.old) self.old.feed ≡ option_map (λ _. []) (S.told shelf.new))) }
+        ensures batch { IfOk result (λ r. IfSome r (λ b. batches_ahead (S.told shelf.old) self.old.feed
+            ≡ option_map (λ rest. b ∷ rest) (batches_ahead (S.told shelf.new) self.new.feed))) }
+        ensures none { IfOk result (λ r. IfNone r (batches_ahead (S.told shelf.old) self.old.feed
+            ≡ option_map (λ _. []) (S.told shelf.new))) }
         ensures end { IfOk result (λ r. IfNone r (IsAtEnd (S.told shelf.new) self.new.feed)) }
-        ensures few { IfOk result (λ r. IfSome r (λ b. length b.edits ≤ 1000000)) }
+        ensures few { IfOk result (λ r. IfSome r (λ b. length b.edits ≤ MOST_EDITS)) }
         ensures paired { IfOk result (λ r. IfSome r (λ b. length b.lines ≡ length b.edits)) }
-        ensures one_more { IfOk result (λ r. MatchOption r (self.new.batches ≡ self.old.batches) (λ _. self.new.batches ≡ self.old.batches + 1)) }
+        ensures one_more { IfOk result (λ r. MatchOption r (self.new.batches ≡ self.old.batches)
+            (λ _. self.new.batches ≡ self.old.batches + 1)) }
         ensures no_more { OnErr result (self.new.batches ≡ self.old.batches) }
-        ensures most_batches { self.new.batches ≤ 2 ^ 40 }
-        ensures slot { self.new.feed.slot ≡ self.old.feed.slot }
+        ensures most_batches { self.new.batches ≤ MOST_BYTES }
+        ensures reads { FeedReads S.told S.opened S.faults shelf.old shelf.new
+            self.old.feed self.new.feed (result_err result) }
+        ensures fewer { IfOk result (λ r. IfNone r (self.new.feed.taken < MOST_BYTES)) }
 
-        // How many bytes were taken.
-        ensures advances { Advances (S.told shelf.old) (S.told shelf.new) self.old.feed.slot (self.new.feed.taken - self.old.feed.taken) }
-        ensures later { self.old.feed.taken ≤ self.new.feed.taken }
-        ensures most { self.new.feed.taken ≤ 2 ^ 40 }
-        ensures fewer { IfOk result (λ r. IfNone r (self.new.feed.taken < 2 ^ 40)) }
+        // Of the batches that ended in the bytes taken it is the first; at an error of reading none had.
+        ensures first { IfOk result (λ r. IfSome r (λ b. (most : ℕ) → self.new.feed.taken ≤ most
+            → IsFirstEnded b most (S.told shelf.old) (S.told shelf.new) self.old.feed self.new.feed)) }
+        ensures unended { IfErr result (IfMoreWanted
+            (IfSome (S.told shelf.old) (NoBatchEnds self.new.feed.taken self.old.feed))) }
 
-        // Turns comes exactly where 2^40 bytes were taken, no line that ends in them ends the batch, and another read is needed.
-        ensures turns { IfErr result (IfTurns (λ n. (n ≡ 2 ^ 40) × (self.new.feed.taken ≡ 2 ^ 40) × NeedsMore self.new.feed)) }
+        // `Turns` comes exactly where another read than the last that may be is needed.
+        ensures due { IsSpent self.old.feed → result ≡ Err (FeedError.Turns MOST_BYTES) }
         ensures stuck { IfErr result (IfTurns (λ _. IfSome (S.told shelf.old) (IsBatchStuck self.old.feed))) }
         ensures not_stuck { OnOk result (IfSome (S.told shelf.old) (λ t. ¬ IsBatchStuck self.old.feed t)) }
-
-        // The other errors.
-        ensures cause { IfErr result (BlamesShelf (S.faults shelf.old) (S.faults shelf.new)) }
-        ensures calm { OnOk result (S.faults shelf.new ≡ S.faults shelf.old) }
-        ensures no_fewer_faults { S.faults shelf.old ≤ S.faults shelf.new }
-        ensures opened { S.opened shelf.new ≡ S.opened shelf.old }
     {
         let batch = read_batch(self.alloc, &mut self.feed, shelf)?;
         if batch.is_some() {

@@ -1,13 +1,16 @@
 // The graph reader.
-ghost use Rattle.std.specs.Prelude.{◌≡◌, ◌+◌, ◌-◌, ◌<◌, ◌≤◌, ◌^◌, ℕ, pos, Ok, Err, [], length, IfOk, IfErr, OnOk, IfSome, IsOk};
+ghost use Rattle.std.specs.Prelude.{◌≡◌, ◌+◌, ◌<◌, ◌≤◌, ℕ, pos, Ok, Err, [], IfOk, IfErr, OnOk, IfSome, IsOk};
+ghost use Rattle.std.specs.Option.{option_map};
 ghost use Rattle.bolt_base.specs.Graph.{IsBetween, IsGood};
+ghost use Rattle.bolt_io.specs.declared.whole.TheConstants.{MOST_BYTES};
 ghost use Rattle.bolt_io.specs.Told.{left};
-ghost use Rattle.text_lines.specs.Lines.{seen_ended_lines};
-ghost use Rattle.text_lines.specs.Feed.{Advances, TookBytes, IsAtEnd, MeetsLimit, ahead, readable, rest};
-ghost use Rattle.graph_text.specs.GraphText.{graph_of, read};
-ghost use Rattle.graph_text.specs.DraftGood.{IsSound, Grows};
+ghost use Rattle.text_lines.specs.Feed.{IsAtEnd, MeetsLimit, ahead, ended_ahead, ended_within, readable};
+ghost use Rattle.text_lines.specs.Reading.{FeedReads};
+ghost use Rattle.graph_text.specs.GraphText.{graph_of, draft_after};
+ghost use Rattle.graph_text.specs.DraftGood.{Grows};
 ghost use Rattle.graph_text.specs.DraftCode.{draft_of};
-ghost use Rattle.graph_text.specs.Refusals.{IfLine, IfTurns, BlamesShelf, IsCutShort};
+ghost use Rattle.graph_text.specs.ReadCode.{EndsInHand, ReadsGoodLines};
+ghost use Rattle.graph_text.specs.Refusals.{IfLine, IfMoreWanted, ReadsGraph, stopped_by};
 
 use crate::graph_draft::GraphDraft;
 use crate::graph_lines::graph_line;
@@ -63,25 +66,28 @@ fn read_lines<S: Shelf>(
     limits: &Limits,
 ) -> Result<(), GraphRefusal>
     requires slot { feed.old.slot < S.opened shelf.old }
-    ensures read { OnOk result (IfSome (ahead (S.told shelf.old) feed.old) (λ lines. read limits.now (draft_of draft.old) (feed.old.lines + 1) lines ≡ Ok (draft_of draft.new))) }
-    ensures bad { IfErr result (IfLine (λ number cause. IfSome (ahead (S.told shelf.old) feed.old) (λ lines. read limits.now (draft_of draft.old) (feed.old.lines + 1) lines ≡ Err (record { line = number; cause = cause })))) }
+    ensures read { OnOk result (IfSome (ahead (S.told shelf.old) feed.old) (λ lines.
+        draft_after limits.now (draft_of draft.old) (feed.old.lines + 1) lines ≡ Ok (draft_of draft.new))) }
+    ensures bad { IfErr result (IfLine (λ number cause. IfSome (ahead (S.told shelf.old) feed.old) (λ lines.
+        draft_after limits.now (draft_of draft.old) (feed.old.lines + 1) lines
+            ≡ Err (record { line = number; cause = cause })))) }
     ensures made { OnOk result (Grows limits.now (draft_of draft.old) (draft_of draft.new)) }
     ensures end { OnOk result (IsAtEnd (S.told shelf.new) feed.new) }
-    ensures slot { feed.new.slot ≡ feed.old.slot }
+    ensures reads { FeedReads S.told S.opened S.faults shelf.old shelf.new feed.old feed.new (stopped_by result) }
+    ensures fewer { OnOk result (feed.new.taken < MOST_BYTES) }
 
-    // How many bytes were taken.
-    ensures advances { Advances (S.told shelf.old) (S.told shelf.new) feed.old.slot (feed.new.taken - feed.old.taken) }
-    ensures later { feed.old.taken ≤ feed.new.taken }
-    ensures fewer { OnOk result (feed.new.taken < 2 ^ 40) }
-
-    // The errors.
-    ensures turns { IfErr result (IfTurns (λ n. (n ≡ 2 ^ 40) × (feed.new.taken ≡ 2 ^ 40))) }
-    ensures cut_short { IfErr result (IfTurns (λ _. IfSome (S.told shelf.old) (λ t. MeetsLimit feed.old t × IsOk (read limits.now (draft_of draft.old) (feed.old.lines + 1) (seen_ended_lines (rest t feed.old)))))) }
-    ensures early { IfErr result (IfLine (λ number cause. IfSome (S.told shelf.old) (λ t. MeetsLimit feed.old t → read limits.now (draft_of draft.old) (feed.old.lines + 1) (seen_ended_lines (rest t feed.old)) ≡ Err (record { line = number; cause = cause })))) }
-    ensures cause { IfErr result (BlamesShelf (S.faults shelf.old) (S.faults shelf.new)) }
-    ensures calm { OnOk result (S.faults shelf.new ≡ S.faults shelf.old) }
-    ensures no_fewer_faults { S.faults shelf.old ≤ S.faults shelf.new }
-    ensures opened { S.opened shelf.new ≡ S.opened shelf.old }
+    // How far it read.
+    ensures far { ReadsGoodLines limits.now (S.told shelf.old) (S.told shelf.new) feed.old feed.new (draft_of draft.old) }
+    ensures front { IfErr result (IfLine (λ number _. (number ≡ feed.new.lines + 1)
+        × IfSome (S.told shelf.new) (EndsInHand feed.new))) }
+    ensures good { IfErr result (IfMoreWanted (IfSome (ended_within feed.new.taken (S.told shelf.old) feed.old)
+        (λ lines. IsOk (draft_after limits.now (draft_of draft.old) (feed.old.lines + 1) lines)))) }
+    ensures early { IfErr result (IfLine (λ number cause. IfSome (S.told shelf.old) (MeetsLimit feed.old)
+        → IfSome (ended_ahead (S.told shelf.old) feed.old)
+            (λ lines. draft_after limits.now (draft_of draft.old) (feed.old.lines + 1) lines
+                ≡ Err (record { line = number; cause = cause })))) }
+    ensures no_lines { ended_within feed.new.taken (S.told shelf.old) feed.old ≡ option_map (λ _. []) (S.told shelf.old)
+        → ended_within feed.new.taken (S.told shelf.new) feed.new ≡ option_map (λ _. []) (S.told shelf.new) }
 {
     'lines: loop {
         let Some(found) = feed.find(shelf)? else {
@@ -98,7 +104,8 @@ fn read_lines<S: Shelf>(
     }
 }
 
-/// The graph of a slot's text, read up to its first bad line.
+/// The graph of a slot's text, read up to its first bad line, and at most one block of 65,536 bytes further. `Turns` comes
+/// exactly where 2^40 bytes were taken, no line that ends in them is bad, and another read is needed.
 pub fn read_graph<S: Shelf>(
     alloc: Global,
     shelf: &mut S,
@@ -106,25 +113,14 @@ pub fn read_graph<S: Shelf>(
     limits: &Limits,
 ) -> Result<GraphData, GraphRefusal>
     requires slot { slot < S.opened shelf.old }
-    ensures graph { IfOk result (λ g. IfSome (S.told shelf.old) (λ t. graph_of limits.now (readable t slot) ≡ Ok g)) }
-    ensures line { IfErr result (IfLine (λ number cause. IfSome (S.told shelf.old) (λ t. graph_of limits.now (readable t slot) ≡ Err (record { line = number; cause = cause })))) }
-    ensures good { IfOk result (λ g. IsBetween limits.now.attr_lo limits.now.attr_hi (pos 0) → IsGood limits.now g) }
-
-    // With Ok the text was read to its end.
+    ensures graph { IfOk result (λ g. IfSome (S.told shelf.old)
+        (λ t. graph_of limits.now (readable t slot) ≡ Ok g)) }
+    ensures line { IfErr result (IfLine (λ number cause. IfSome (S.told shelf.old)
+        (λ t. graph_of limits.now (readable t slot) ≡ Err (record { line = number; cause = cause })))) }
+    ensures good { IfOk result (λ g. IsBetween limits.now.attr_lo limits.now.attr_hi (pos 0)
+        → IsGood limits.now g) }
     ensures end { OnOk result (IfSome (S.told shelf.new) (λ t. left t slot ≡ [])) }
-    ensures short { OnOk result (IfSome (S.told shelf.old) (λ t. length (left t slot) < 2 ^ 40)) }
-
-    // Turns comes exactly where 2^40 bytes were taken, no line that ends in them is bad, and another read is needed.
-    ensures turns { IfErr result (IfTurns (λ n. n ≡ 2 ^ 40)) }
-    ensures cut_short { IfErr result (IfTurns (λ _. IfSome (S.told shelf.old) (IsCutShort limits.now slot))) }
-    ensures early { IfErr result (IfLine (λ _ _. IfSome (S.told shelf.old) (λ t. ¬ IsCutShort limits.now slot t))) }
-
-    // The shelf: bytes of the slot were taken, and nothing else changed.
-    ensures took { TookBytes (S.told shelf.old) (S.told shelf.new) slot }
-    ensures cause { IfErr result (BlamesShelf (S.faults shelf.old) (S.faults shelf.new)) }
-    ensures calm { OnOk result (S.faults shelf.new ≡ S.faults shelf.old) }
-    ensures no_fewer_faults { S.faults shelf.old ≤ S.faults shelf.new }
-    ensures opened { S.opened shelf.new ≡ S.opened shelf.old }
+    ensures reads { ReadsGraph S.told S.opened S.faults shelf.old shelf.new limits.now slot result }
 {
     let mut feed = LineFeed::new(alloc, slot);
     let mut draft = GraphDraft::new(alloc);

@@ -7,33 +7,7 @@ ghost use Rattle.graph_text.specs.Printed.{two_words, graph_text, batch_text, co
 
 use crate::weight_map::WeightMap;
 use bolt_base::{Bytes, Edge, EdgeList, Edit, GraphData, Memory};
-use itoa::Buffer;
 use std::alloc::Global;
-
-fn put_bytes(out: &mut Bytes, bytes: &[u8]) -> Result<(), Memory>
-    ensures { OnOk result (out.new ≡ out.old ++ bytes.now) }
-{
-    for b in bytes {
-        out.push(*b)?;
-    }
-    Ok(())
-}
-
-fn put_number(out: &mut Bytes, number: u64) -> Result<(), Memory>
-    ensures { OnOk result (out.new ≡ out.old ++ decimal number) }
-{
-    let mut buffer = Buffer::new();
-    put_bytes(out, buffer.format(number).as_bytes())?;
-    Ok(())
-}
-
-fn put_whole(out: &mut Bytes, whole: i64) -> Result<(), Memory>
-    ensures { OnOk result (out.new ≡ out.old ++ signed_decimal whole) }
-{
-    let mut buffer = Buffer::new();
-    put_bytes(out, buffer.format(whole).as_bytes())?;
-    Ok(())
-}
 
 fn put_space(out: &mut Bytes) -> Result<(), Memory>
     ensures { OnOk result (out.new ≡ out.old ++ 32 ∷ []) }
@@ -54,7 +28,7 @@ fn put_last(out: &mut Bytes, whole: i64) -> Result<(), Memory>
     ensures { OnOk result (out.new ≡ out.old ++ (32 ∷ signed_decimal whole ++ 10 ∷ [])) }
 {
     put_space(out)?;
-    put_whole(out, whole)?;
+    out.push_signed(whole)?;
     put_end(out)?;
     Ok(())
 }
@@ -63,7 +37,7 @@ fn put_last(out: &mut Bytes, whole: i64) -> Result<(), Memory>
 fn put_two(out: &mut Bytes, vertex: u64, whole: i64) -> Result<(), Memory>
     ensures { OnOk result (out.new ≡ out.old ++ two_words (decimal vertex) (signed_decimal whole)) }
 {
-    put_number(out, vertex)?;
+    out.push_decimal(vertex)?;
     put_last(out, whole)?;
     Ok(())
 }
@@ -72,9 +46,9 @@ fn put_two(out: &mut Bytes, vertex: u64, whole: i64) -> Result<(), Memory>
 fn put_ends(out: &mut Bytes, src: u64, dst: u64) -> Result<(), Memory>
     ensures { OnOk result (out.new ≡ out.old ++ two_words (decimal src) (decimal dst)) }
 {
-    put_number(out, src)?;
+    out.push_decimal(src)?;
     put_space(out)?;
-    put_number(out, dst)?;
+    out.push_decimal(dst)?;
     put_end(out)?;
     Ok(())
 }
@@ -83,7 +57,7 @@ fn put_ends(out: &mut Bytes, src: u64, dst: u64) -> Result<(), Memory>
 fn put_edge(out: &mut Bytes, edge: Edge) -> Result<(), Memory>
     ensures { OnOk result (out.new ≡ out.old ++ edge_text edge) }
 {
-    put_number(out, u64::from(edge.src))?;
+    out.push_decimal(u64::from(edge.src))?;
     put_space(out)?;
     put_two(out, u64::from(edge.dst), edge.weight)?;
     Ok(())
@@ -98,7 +72,7 @@ fn put_attr(out: &mut Bytes, attrs: &[i64], vertex: usize) -> Result<(), Memory>
     if attr == 0 {
         return Ok(());
     }
-    put_bytes(out, b"attr ")?;
+    out.extend_from_slice(b"attr ")?;
     put_two(out, vertex as u64, attr)?;
     Ok(())
 }
@@ -107,8 +81,8 @@ fn put_attr(out: &mut Bytes, attrs: &[i64], vertex: usize) -> Result<(), Memory>
 fn put_count(out: &mut Bytes, count: usize) -> Result<(), Memory>
     ensures { OnOk result (out.new ≡ out.old ++ count_text count) }
 {
-    put_bytes(out, b"vertices ")?;
-    put_number(out, count as u64)?;
+    out.extend_from_slice(b"vertices ")?;
+    out.push_decimal(count as u64)?;
     put_end(out)?;
     Ok(())
 }
@@ -119,17 +93,17 @@ fn put_edit(out: &mut Bytes, edit: Edit) -> Result<(), Memory>
 {
     match edit {
         Edit::Add(edge) => {
-            put_bytes(out, b"+ ")?;
+            out.extend_from_slice(b"+ ")?;
             put_edge(out, edge)?;
             Ok(())
         }
         Edit::Cut { src, dst } => {
-            put_bytes(out, b"- ")?;
+            out.extend_from_slice(b"- ")?;
             put_ends(out, u64::from(src), u64::from(dst))?;
             Ok(())
         }
         Edit::Attr { vertex, attr } => {
-            put_bytes(out, b"v ")?;
+            out.extend_from_slice(b"v ")?;
             put_two(out, u64::from(vertex), attr)?;
             Ok(())
         }
@@ -189,6 +163,6 @@ pub fn print_batch(alloc: Global, edits: &[Edit]) -> Result<Bytes, Memory>
     for edit in edits {
         put_edit(&mut text, *edit)?;
     }
-    put_bytes(&mut text, b"commit\n")?;
+    text.extend_from_slice(b"commit\n")?;
     Ok(text)
 }

@@ -2,14 +2,15 @@
 #![tactic(auto)]
 
 ghost use Rattle.std.specs.Prelude.{◌≡◌, [], length};
-ghost use Rattle.swaps.specs.Swaps.{put_all, undo, AreInside};
+ghost use Rattle.swaps.specs.Swaps.{put_all, undo, places, AreInside};
 
 use std::mem;
 
 #[cfg(test)]
 mod tests;
 
-/// Puts each item in its place, in order, and leaves in its stead what stood there. Takes no memory.
+/// Puts each item in its place, in order, and leaves in its stead what stood there. Takes no
+/// memory.
 pub fn swap_in<X>(all: &mut Vec<X>, items: &mut Vec<(u32, X)>)
     requires { AreInside (length all.old.items) items.old.items }
     ensures put { all.new.items ≡ put_all items.old.items all.old.items }
@@ -17,6 +18,7 @@ pub fn swap_in<X>(all: &mut Vec<X>, items: &mut Vec<(u32, X)>)
     ensures inside { AreInside (length all.new.items) items.new.items }
     ensures length { length all.new.items ≡ length all.old.items }
     ensures count { length items.new.items ≡ length items.old.items }
+    ensures places { places items.new.items ≡ places items.old.items }
 {
     let count = items.len();
     for i in 0..count {

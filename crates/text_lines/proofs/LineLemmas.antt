@@ -6,7 +6,7 @@ use Rattle.std.proofs.lemmas.List.{drop_more, length-take-le, append-nil}
 use Rattle.std.proofs.lemmas.List.Splits.{slice_split_at, slice_split_none}
 use Rattle.std.proofs.lemmas.List.Elements.{All-head, All-tail, All-take}
 use Rattle.std.proofs.lemmas.Bool.Decides.{nat_tests}
-use Rattle.text_lines.specs.Lines.{is_lf, without_cr, lines_by, unended, seen, seen_lines, seen_ended_lines}
+use Rattle.text_lines.specs.Lines.{is_lf, without_cr, lines_by, unended, seen, seen_lines, seen_ended_lines, after_lines}
 use Rattle.text_lines.specs.Feed.{EndsLine}
 
 -- there is a first part
@@ -59,10 +59,10 @@ seen_by-ended last xs ys none =
     ap (λ (l : List (List ℕ)). map seen (lines_by last l)) (slice_split_at is_lf xs 10 ys none refl)
     ∙ ap (map seen) (lines_by-ended last xs (slice_split is_lf ys) (split_some is_lf ys))
 
--- the first line of the bytes and those behind it
-front_by : (last : List ℕ → List (List ℕ)) (bytes rest : List ℕ) (len whole : ℕ) → EndsLine bytes len whole → seen_by last (bytes ++ rest) ≡ seen (take len bytes) ∷ seen_by last (drop whole bytes ++ rest)
-front_by last bytes rest len zero ends = absurd (let h = ends.some in omega arith)
-front_by last bytes rest len (suc n) ends =
+-- bytes are their first line, its LF and what stands behind them
+split_first_line : (bytes rest : List ℕ) (len whole : ℕ) → EndsLine bytes len whole → bytes ++ rest ≡ take (whole - 1) bytes ++ 10 ∷ (drop whole bytes ++ rest)
+split_first_line bytes rest len zero ends = absurd (let h = ends.some in omega arith)
+split_first_line bytes rest len (suc n) ends =
     let m = suc n - 1 in
     let less : m < length bytes = (let h = ends.within in omega arith) in
     let next : m + 1 ≡ suc n = omega arith in
@@ -71,11 +71,40 @@ front_by last bytes rest len (suc n) ends =
     ∙ ap (λ (l : List ℕ). take m bytes ++ l) (drop_more bytes m 0 less)
     ∙ ap (λ (b : ℕ). take m bytes ++ b ∷ drop (m + 1) bytes) ends.here
     ∙ ap (λ (k : ℕ). take m bytes ++ 10 ∷ drop k bytes) next in
-    let whole : bytes ++ rest ≡ take m bytes ++ 10 ∷ (drop (suc n) bytes ++ rest) =
-    ap (λ (l : List ℕ). l ++ rest) cut ∙ Rattle.std.proofs.Common.append_assoc (take m bytes) (10 ∷ drop (suc n) bytes) rest in
-    ap (seen_by last) whole
-    ∙ seen_by-ended last (take m bytes) (drop (suc n) bytes ++ rest) ends.none_before
-    ∙ ap (λ (l : List ℕ). seen l ∷ seen_by last (drop (suc n) bytes ++ rest)) (sym ends.line)
+    ap (λ (l : List ℕ). l ++ rest) cut ∙ Rattle.std.proofs.Common.append_assoc (take m bytes) (10 ∷ drop (suc n) bytes) rest
+
+-- the first line of the bytes and those behind it
+front_by : (last : List ℕ → List (List ℕ)) (bytes rest : List ℕ) (len whole : ℕ) → EndsLine bytes len whole → seen_by last (bytes ++ rest) ≡ seen (take len bytes) ∷ seen_by last (drop whole bytes ++ rest)
+front_by last bytes rest len whole ends =
+    ap (seen_by last) (split_first_line bytes rest len whole ends)
+    ∙ seen_by-ended last (take (whole - 1) bytes) (drop whole bytes ++ rest) ends.none_before
+    ∙ ap (λ (l : List ℕ). seen l ∷ seen_by last (drop whole bytes ++ rest)) (sym ends.line)
+
+-- bytes without an LF are no line, so that nothing changes behind the first line where they stand in front
+after_unended : (n : ℕ) (xs ys : List ℕ) → All (λ b. is_lf b ≡ false) xs → after_lines (suc n) (xs ++ ys) ≡ after_lines (suc n) ys
+after_unended n [] ys none = refl
+after_unended n (x ∷ xs) ys none =
+    ap (λ (b : Bool). cond b (after_lines n (xs ++ ys)) (after_lines (suc n) (xs ++ ys))) (All-head (λ b. is_lf b ≡ false) x xs none)
+    ∙ after_unended n xs ys (All-tail (λ b. is_lf b ≡ false) x xs none)
+
+-- what stands behind the first line and n more
+pub after_front : (n : ℕ) (bytes rest : List ℕ) (len whole : ℕ) → EndsLine bytes len whole → after_lines (suc n) (bytes ++ rest) ≡ after_lines n (drop whole bytes ++ rest)
+after_front n bytes rest len whole ends =
+    ap (after_lines (suc n)) (split_first_line bytes rest len whole ends) ∙ after_unended n (take (whole - 1) bytes) (10 ∷ (drop whole bytes ++ rest)) ends.none_before
+
+-- it doesn't change where a line that has no end yet is cut
+pub after_cut : (n : ℕ) (bytes more : List ℕ) → All (λ b. is_lf b ≡ false) bytes → after_lines (suc n) (take 257 bytes ++ more) ≡ after_lines (suc n) (bytes ++ more)
+after_cut n bytes more none =
+    after_unended n (take 257 bytes) more (All-take (λ b. is_lf b ≡ false) 257 bytes none) ∙ sym (after_unended n bytes more none)
+
+-- nothing stands behind the lines of no bytes
+pub after_none : (n : ℕ) → after_lines n [] ≡ []
+after_none zero = refl
+after_none (suc n) = refl
+
+-- nor behind the first line of bytes without an LF
+pub after_last : (n : ℕ) (bytes : List ℕ) → All (λ b. is_lf b ≡ false) bytes → after_lines (suc n) bytes ≡ []
+after_last n bytes none = ap (after_lines (suc n)) (sym (append-nil bytes)) ∙ after_unended n bytes [] none
 
 pub lines_front : (bytes rest : List ℕ) (len whole : ℕ) → EndsLine bytes len whole → seen_lines (bytes ++ rest) ≡ seen (take len bytes) ∷ seen_lines (drop whole bytes ++ rest)
 lines_front = front_by unended

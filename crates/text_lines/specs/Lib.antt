@@ -3,3 +3,4 @@ pub mod Words
 pub mod Numbers
 pub mod Feed
 pub mod Answers
+pub mod Reading

@@ -1,6 +1,7 @@
 -- The lines of a text.
-use Rattle.std.specs.Prelude.{ℕ, ◌-◌, ◌==◌, Bool, not, nat_lt, if◌then◌else◌, List, [], ◌∷◌, map, length, take, slice_index, Option, Some, None}
+use Rattle.std.specs.Prelude.{ℕ, zero, suc, ◌-◌, ◌==◌, Bool, not, nat_lt, if◌then◌else◌, List, [], ◌∷◌, map, length, take, slice_index, Option, Some, None}
 use Rattle.std.specs.List.{slice_split}
+use Rattle.text_lines.specs.declared.line_feed.TheConstants.{MOST_LINE_BYTES}
 
 abbrev pub is_lf : ℕ → Bool
 is_lf b = b == 10
@@ -30,9 +31,9 @@ lines text = lines_by unended (slice_split is_lf text)
 abbrev pub ended_lines : List ℕ → List (List ℕ)
 ended_lines text = lines_by (λ part. []) (slice_split is_lf text)
 
--- a line, its comment included, has at most 255 bytes
+-- a line that is too long, its comment included
 abbrev pub is_long : List ℕ → Bool
-is_long line = nat_lt 255 (length line)
+is_long line = nat_lt MOST_LINE_BYTES (length line)
 
 -- what counts of a line: its bytes, and of a long line only that it is one
 abbrev pub seen : List ℕ → Option (List ℕ)
@@ -43,3 +44,13 @@ seen_lines text = map seen (lines text)
 
 abbrev pub seen_ended_lines : List ℕ → List (Option (List ℕ))
 seen_ended_lines text = map seen (ended_lines text)
+
+-- what stands in a text behind its first n lines
+abbrev pub after_lines : ℕ → List ℕ → List ℕ
+after_lines zero text = text
+after_lines (suc n) [] = []
+after_lines (suc n) (b ∷ bs) = if is_lf b then after_lines n bs else after_lines (suc n) bs
+
+-- how many bytes the first n lines of a text have, with their ends
+abbrev pub lines_len : ℕ → List ℕ → ℕ
+lines_len n text = length text - length (after_lines n text)

@@ -7,7 +7,7 @@ mod numbers;
 mod words;
 
 pub use feed::{FeedError, Line};
-pub use line_feed::{Found, LineFeed};
+pub use line_feed::{BLOCK_BYTES, FrontLine, LineFeed, MOST_LINE_BYTES};
 pub use numbers::{vertex_word, whole_word};
 pub use words::{before_comment, next_word};
 

@@ -1,4 +1,5 @@
-use Rattle.std.proofs.Common.{◌≡◌, ℕ, ◌+◌, ◌-◌, List, ◌++◌, length, take, drop, sym, ◌∙◌, ap, subst, arith, length-drop, take-add}
+use Rattle.std.proofs.Common.{◌≡◌, ℕ, ◌+◌, ◌-◌, List, ◌++◌, length, take, drop, sym, ◌∙◌, ap, subst}
+use Rattle.std.proofs.Common.{arith, length-drop, take-add}
 use Rattle.std.proofs.lemmas.List.{take_all}
 use Rattle.bolt_io.specs.Written.{Wrote}
 use Rattle.bolt_io.proofs.WrittenLemmas.{Wrote-then}
@@ -8,7 +9,8 @@ use Rattle.bolt_io.proofs.sink.put_all.Goals as goal
 from : (bytes : List ℕ) (at : ℕ) → take (length bytes - at) (drop at bytes) ≡ drop at bytes
 from bytes at = take_all _ _ (omega (arith, length-drop at bytes))
 
-more : (bytes : List ℕ) (at n : ℕ) → take at bytes ++ take n (take (length bytes - at) (drop at bytes)) ≡ take (at + n) bytes
+more : (bytes : List ℕ) (at n : ℕ)
+    → take at bytes ++ take n (take (length bytes - at) (drop at bytes)) ≡ take (at + n) bytes
 more bytes at n = ap (λ l. take at bytes ++ take n l) (from bytes at) ∙ sym (take-add at n bytes)
 
 pub loop-at-preserved : goal.loop-at-preserved

@@ -1,40 +1,64 @@
-use Rattle.std.proofs.Common.{◌≡◌, ◌+◌, ◌-◌, ◌≤◌, ◌∙◌, ap, sym, subst, refl, arith, rules, ℕ}
-use Rattle.std.specs.Prelude.{IfSome, MatchOption, take}
+use Rattle.std.proofs.Common.{◌≡◌, ℕ, ◌+◌, ◌-◌, ◌≤◌, ◌∙◌, ap, sym, subst, refl, arith, rules, inl, List, [], ◌∷◌, Option, None, Some}
+use Rattle.std.specs.Prelude.{IfSome, IfNone, MatchOption, take, ◌<◌}
 use Rattle.std.specs.Option.{option_map}
+use Rattle.bolt_io.specs.declared.whole.TheConstants.{MOST_BYTES}
 use Rattle.bolt_io.proofs.TakenLemmas.{slot_told}
 use Rattle.text_lines.specs.Lines.{seen}
-use Rattle.text_lines.specs.Feed.{Feed, ahead, Advances, IsAtEnd, IsFront}
-use Rattle.text_lines.proofs.FeedLemmas.{Advances-none, Advances-on, limit_later, limit_before}
+use Rattle.text_lines.specs.Feed.{Feed, ahead, answered, IsAtEnd, IsFront, IsLastLine, MeetsLimit}
+use Rattle.text_lines.specs.Reading.{FeedReads, IsSpent}
+use Rattle.text_lines.proofs.FeedLemmas.{ahead_front, ended_needs, front_some, front_within, front_unspent, limit_before, limit_not, limit_not_last}
+use Rattle.text_lines.proofs.ReadingLemmas.{SoFar, so_far_none, so_far_on, feed_reads_on, feed_reads_answered, feed_reads_starved, if_more_wanted, if_turns}
+use Rattle.graph_text.specs.declared.batch_text.BatchText.{BatchText}
 use Rattle.graph_text.specs.declared.batch_text.OpenBatch.{OpenBatch}
-use Rattle.graph_text.specs.StreamText.{stream_line, batches_from}
-use Rattle.graph_text.specs.BatchCode.{IsPaired, IsBatchStuck, batches_ahead, with_line, has_commit}
-use Rattle.graph_text.proofs.BatchLemmas.{open_ahead, open_line, commit_ahead, commit_here, commit_behind, batch_stuck, batch_not_stuck, feed_turns}
+use Rattle.graph_text.specs.declared.stream_lines.StreamLine.TheVariants.{Commit}
+use Rattle.graph_text.specs.StreamText.{stream_line, unfinished}
+use Rattle.graph_text.specs.OpenCode.{IsPaired, with_line, committed}
+use Rattle.graph_text.specs.BatchCode.{NoBatchEnds, IsBatchStuck, IsFirstEnded, batches_ahead}
+use Rattle.graph_text.proofs.BatchLemmas.{EndsAhead, open_on, open_first, open_commit, open_line, open_found, told_alike, ended_at_end, ends_found, ends_fresh, ends_none, ends_more, ends_commit, batch_at_end, none_at_end, no_batch_ends, batch_stuck, short_not_stuck, batch_not_stuck}
 use Rattle.graph_text.proofs.batch_reader.read_batch.Goals as goal
 
 pub lines-init : goal.lines-init
-lines-init g c = record {
-  read = ap (λ (b : OpenBatch). open_ahead b (g.S.Shelf.told c.args.shelf.now) c.args.feed.now) c.new-open.ensures;
-  ended = λ limit. refl;
-  paired = subst IsPaired (sym c.new-open.ensures) (record { lines = refl; few = omega arith });
-  begun = λ _. ap (λ (b : OpenBatch). b.first_line) c.new-open.ensures;
-  lines = omega arith;
-  slot = refl;
-  advances = Advances-none _ _ _ (omega arith);
-  later = omega arith;
-  calm = refl;
-  opened = refl;
-}
+lines-init g c =
+    let first = c.args.feed.now in
+    let start = g.S.Shelf.told c.args.shelf.now in
+    let new = c.new-open.ensures in
+    record {
+      so_far = so_far_none _ _ _ _ _ _;
+      read = ap (λ (b : OpenBatch). open_on unfinished b (first.lines + 1) (ahead start first)) new ∙ open_first unfinished (first.lines + 1) (ahead start first);
+      ended = λ most few. ends_fresh start first c.new-open.result most new;
+      paired = subst IsPaired (sym new) (record { lines = refl; few = omega arith });
+      begun = λ _. ap (λ (b : OpenBatch). b.first_line) new;
+      lines = omega arith;
+      slot = refl;
+      due = λ _. refl;
+    }
 
-pub returns-in_err-found-clause-advances : goal.returns-in_err-found-clause-advances
-returns-in_err-found-clause-advances g c = Advances-on _ _ _ _ _ _ _ (slot_told (g.S.Shelf.told c.args.shelf.now) (g.S.Shelf.opened c.args.shelf.now) c.args.feed.now.slot (g.met.S.Shelf.tells_slots c.args.shelf.now) c.requires.slot) c.lines.invariant.advances c.lines.invariant.later _ c.lines.invariant.slot c.in_err-found.ensures.advances c.in_err-found.ensures.later
+pub returns-in_err-found-clause-reads : goal.returns-in_err-found-clause-reads
+returns-in_err-found-clause-reads g c =
+    let first = c.args.feed.now in
+    let f = c.find.new.self in
+    let start = g.S.Shelf.told c.args.shelf.now in
+    let told = g.S.Shelf.told c.find.new.shelf in
+    let below = slot_told start (g.S.Shelf.opened c.args.shelf.now) first.slot (g.met.S.Shelf.tells_slots c.args.shelf.now) c.requires.slot in
+    let e = c.in_err-found.ensures in
+    let all = feed_reads_on g.S.Shelf.told g.S.Shelf.opened g.S.Shelf.faults _ _ _ first c.lines.feed f _ below c.lines.invariant.so_far c.lines.invariant.slot c.lines.invariant.lines e.reads in
+    search (rules, all)
 
-pub returns-in_default-clause-advances : goal.returns-in_default-clause-advances
-returns-in_default-clause-advances g c = Advances-on _ _ _ _ _ _ _ (slot_told (g.S.Shelf.told c.args.shelf.now) (g.S.Shelf.opened c.args.shelf.now) c.args.feed.now.slot (g.met.S.Shelf.tells_slots c.args.shelf.now) c.requires.slot) c.lines.invariant.advances c.lines.invariant.later _ c.lines.invariant.slot c.in_ok-found.ensures.advances c.in_ok-found.ensures.later
-
-pub returns-in-Commit-clause-advances : goal.returns-in-Commit-clause-advances
-returns-in-Commit-clause-advances g c =
-    let skipped = ap (λ (x : Feed). x.taken) c.skip.ensures in
-    subst (λ (n : ℕ). Advances (g.S.Shelf.told c.args.shelf.now) (g.S.Shelf.told c.find.new.shelf) c.args.feed.now.slot (n - c.args.feed.now.taken)) (sym skipped) (Advances-on _ _ _ _ _ _ _ (slot_told (g.S.Shelf.told c.args.shelf.now) (g.S.Shelf.opened c.args.shelf.now) c.args.feed.now.slot (g.met.S.Shelf.tells_slots c.args.shelf.now) c.requires.slot) c.lines.invariant.advances c.lines.invariant.later _ c.lines.invariant.slot c.in_ok-found.ensures.advances c.in_ok-found.ensures.later)
+pub returns-in_err-found-clause-unended : goal.returns-in_err-found-clause-unended
+returns-in_err-found-clause-unended g c =
+    let first = c.args.feed.now in
+    let f = c.find.new.self in
+    let start = g.S.Shelf.told c.args.shelf.now in
+    let told = g.S.Shelf.told c.find.new.shelf in
+    let below = slot_told start (g.S.Shelf.opened c.args.shelf.now) first.slot (g.met.S.Shelf.tells_slots c.args.shelf.now) c.requires.slot in
+    let e = c.in_err-found.ensures in
+    let all = feed_reads_on g.S.Shelf.told g.S.Shelf.opened g.S.Shelf.faults _ _ _ first c.lines.feed f _ below c.lines.invariant.so_far c.lines.invariant.slot c.lines.invariant.lines e.reads in
+    let ended : (most : ℕ) → f.taken ≤ most → EndsAhead start told first f c.lines.open most = λ most few.
+        ends_found start (g.S.Shelf.told c.lines.shelf) told first c.lines.feed f c.lines.open most e.lines (e.ended most few) (c.lines.invariant.ended most (let later = e.reads.reads.later in omega arith)) in
+    let alike : option_map (λ _. []) told ≡ (let o : Option (List BatchText) = option_map (λ _. []) start in o) = told_alike [] start told first.slot _ all.reads.takes in
+    let h = if_more_wanted f c.in_err-found.field-0.0 (IfSome start (NoBatchEnds f.taken first)) e.reads.stops
+    (λ none. no_batch_ends start first f.taken (ends_none start told first f c.lines.open f.taken c.lines.invariant.paired alike (ended_needs told f f.taken (omega arith) none) (ended f.taken (omega arith)))) in
+    search (rules, h)
 
 pub returns-in_err-found-clause-stuck : goal.returns-in_err-found-clause-stuck
 returns-in_err-found-clause-stuck g c =
@@ -43,15 +67,144 @@ returns-in_err-found-clause-stuck g c =
     let start = g.S.Shelf.told c.args.shelf.now in
     let told = g.S.Shelf.told c.find.new.shelf in
     let below = slot_told start (g.S.Shelf.opened c.args.shelf.now) first.slot (g.met.S.Shelf.tells_slots c.args.shelf.now) c.requires.slot in
-    let slot = c.in_err-found.ensures.slot ∙ c.lines.invariant.slot in
-    let advances = Advances-on _ _ _ _ _ _ _ below c.lines.invariant.advances c.lines.invariant.later _ c.lines.invariant.slot c.in_err-found.ensures.advances c.in_err-found.ensures.later in
-    let early = c.lines.invariant.later in
-    let late = c.in_err-found.ensures.later in
-    let later : first.taken ≤ f.taken = omega arith in
-    let h = feed_turns c.in_err-found.field-0.0 _ (IfSome start (IsBatchStuck first)) c.in_err-found.ensures.turns (λ n turns.
-    let limit = limit_before start told first f below slot later advances turns.1 in
-    batch_stuck start told first f (ap (option_map has_commit) c.in_err-found.ensures.ended_ahead ∙ c.lines.invariant.ended limit) turns.1 turns.2 limit) in
+    let e = c.in_err-found.ensures in
+    let all = feed_reads_on g.S.Shelf.told g.S.Shelf.opened g.S.Shelf.faults _ _ _ first c.lines.feed f _ below c.lines.invariant.so_far c.lines.invariant.slot c.lines.invariant.lines e.reads in
+    let ended : (most : ℕ) → f.taken ≤ most → EndsAhead start told first f c.lines.open most = λ most few.
+        ends_found start (g.S.Shelf.told c.lines.shelf) told first c.lines.feed f c.lines.open most e.lines (e.ended most few) (c.lines.invariant.ended most (let later = e.reads.reads.later in omega arith)) in
+    let alike : option_map (λ _. []) told ≡ (let o : Option (List BatchText) = option_map (λ _. []) start in o) = told_alike [] start told first.slot _ all.reads.takes in
+    let h = if_turns f c.in_err-found.field-0.0 (IfSome start (IsBatchStuck first)) e.reads.stops
+    (λ spent. batch_stuck start first (limit_before start told first f below all.slot all.reads.later all.reads.takes spent.all)
+    (no_batch_ends start first MOST_BYTES (ends_none start told first f c.lines.open MOST_BYTES c.lines.invariant.paired alike (ended_needs told f MOST_BYTES (let full = spent.all in omega arith) spent.none) (ended MOST_BYTES e.reads.reads.most)))) in
     search (rules, h)
+
+pub returns-in_default-clause-reads : goal.returns-in_default-clause-reads
+returns-in_default-clause-reads g c =
+    let first = c.args.feed.now in
+    let f = c.find.new.self in
+    let start = g.S.Shelf.told c.args.shelf.now in
+    let told = g.S.Shelf.told c.find.new.shelf in
+    let below = slot_told start (g.S.Shelf.opened c.args.shelf.now) first.slot (g.met.S.Shelf.tells_slots c.args.shelf.now) c.requires.slot in
+    let e = c.in_ok-found.ensures in
+    let all = feed_reads_on g.S.Shelf.told g.S.Shelf.opened g.S.Shelf.faults _ _ _ first c.lines.feed f _ below c.lines.invariant.so_far c.lines.invariant.slot c.lines.invariant.lines e.reads in
+    all
+
+pub returns-in_default-clause-batch : goal.returns-in_default-clause-batch
+returns-in_default-clause-batch g c =
+    let first = c.args.feed.now in
+    let f = c.find.new.self in
+    let start = g.S.Shelf.told c.args.shelf.now in
+    let told = g.S.Shelf.told c.find.new.shelf in
+    let below = slot_told start (g.S.Shelf.opened c.args.shelf.now) first.slot (g.met.S.Shelf.tells_slots c.args.shelf.now) c.requires.slot in
+    let e = c.in_ok-found.ensures in
+    let all = feed_reads_on g.S.Shelf.told g.S.Shelf.opened g.S.Shelf.faults _ _ _ first c.lines.feed f _ below c.lines.invariant.so_far c.lines.invariant.slot c.lines.invariant.lines e.reads in
+    let end : IsAtEnd told f = subst (λ r. MatchOption r (IsAtEnd told f) (λ x. IsFront told f x.len x.whole)) c.in_default.is e.line in
+    let read = open_found (g.S.Shelf.told c.lines.shelf) told c.lines.feed f c.lines.open e.lines e.ahead ∙ c.lines.invariant.read in
+    batch_at_end start told first f c.lines.open c.lines.invariant.paired end read c.leave_open.result c.leave_open.ensures.batch
+
+pub returns-in_default-clause-none : goal.returns-in_default-clause-none
+returns-in_default-clause-none g c =
+    let first = c.args.feed.now in
+    let f = c.find.new.self in
+    let start = g.S.Shelf.told c.args.shelf.now in
+    let told = g.S.Shelf.told c.find.new.shelf in
+    let below = slot_told start (g.S.Shelf.opened c.args.shelf.now) first.slot (g.met.S.Shelf.tells_slots c.args.shelf.now) c.requires.slot in
+    let e = c.in_ok-found.ensures in
+    let all = feed_reads_on g.S.Shelf.told g.S.Shelf.opened g.S.Shelf.faults _ _ _ first c.lines.feed f _ below c.lines.invariant.so_far c.lines.invariant.slot c.lines.invariant.lines e.reads in
+    let end : IsAtEnd told f = subst (λ r. MatchOption r (IsAtEnd told f) (λ x. IsFront told f x.len x.whole)) c.in_default.is e.line in
+    let read = open_found (g.S.Shelf.told c.lines.shelf) told c.lines.feed f c.lines.open e.lines e.ahead ∙ c.lines.invariant.read in
+    none_at_end start told first f c.lines.open c.lines.invariant.paired end read c.leave_open.result c.leave_open.ensures.batch
+
+pub returns-in_default-clause-first : goal.returns-in_default-clause-first
+returns-in_default-clause-first g c =
+    let first = c.args.feed.now in
+    let f = c.find.new.self in
+    let start = g.S.Shelf.told c.args.shelf.now in
+    let told = g.S.Shelf.told c.find.new.shelf in
+    let below = slot_told start (g.S.Shelf.opened c.args.shelf.now) first.slot (g.met.S.Shelf.tells_slots c.args.shelf.now) c.requires.slot in
+    let e = c.in_ok-found.ensures in
+    let all = feed_reads_on g.S.Shelf.told g.S.Shelf.opened g.S.Shelf.faults _ _ _ first c.lines.feed f _ below c.lines.invariant.so_far c.lines.invariant.slot c.lines.invariant.lines e.reads in
+    let end : IsAtEnd told f = subst (λ r. MatchOption r (IsAtEnd told f) (λ x. IsFront told f x.len x.whole)) c.in_default.is e.line in
+    let ended : (most : ℕ) → f.taken ≤ most → EndsAhead start told first f c.lines.open most = λ most few.
+        ends_found start (g.S.Shelf.told c.lines.shelf) told first c.lines.feed f c.lines.open most e.lines (e.ended most few) (c.lines.invariant.ended most (let later = e.reads.reads.later in omega arith)) in
+    let alike : option_map (λ _. []) told ≡ (let o : Option (List BatchText) = option_map (λ _. []) start in o) = told_alike [] start told first.slot _ all.reads.takes in
+    each c.leave_open.result (λ b most few. inl (ends_none start told first f c.lines.open most c.lines.invariant.paired alike (ended_at_end told f end most) (ended most few)))
+  where
+    each : {P : BatchText → Type 0} (r : Option BatchText) → ((b : BatchText) → P b) → IfSome r P
+    each None h = tt
+    each (Some b) h = h b
+
+pub returns-in_default-clause-not_stuck : goal.returns-in_default-clause-not_stuck
+returns-in_default-clause-not_stuck g c =
+    let first = c.args.feed.now in
+    let f = c.find.new.self in
+    let start = g.S.Shelf.told c.args.shelf.now in
+    let told = g.S.Shelf.told c.find.new.shelf in
+    let below = slot_told start (g.S.Shelf.opened c.args.shelf.now) first.slot (g.met.S.Shelf.tells_slots c.args.shelf.now) c.requires.slot in
+    let e = c.in_ok-found.ensures in
+    let all = feed_reads_on g.S.Shelf.told g.S.Shelf.opened g.S.Shelf.faults _ _ _ first c.lines.feed f _ below c.lines.invariant.so_far c.lines.invariant.slot c.lines.invariant.lines e.reads in
+    let end : IsAtEnd told f = subst (λ r. MatchOption r (IsAtEnd told f) (λ x. IsFront told f x.len x.whole)) c.in_default.is e.line in
+    let few = subst (λ r. IfNone r (f.taken < MOST_BYTES)) c.in_default.is e.fewer in
+    short_not_stuck start first (limit_not start told first f below all.slot all.reads.later all.reads.takes few end.1)
+
+pub returns-in-Commit-clause-reads : goal.returns-in-Commit-clause-reads
+returns-in-Commit-clause-reads g c =
+    let first = c.args.feed.now in
+    let f = c.find.new.self in
+    let start = g.S.Shelf.told c.args.shelf.now in
+    let told = g.S.Shelf.told c.find.new.shelf in
+    let below = slot_told start (g.S.Shelf.opened c.args.shelf.now) first.slot (g.met.S.Shelf.tells_slots c.args.shelf.now) c.requires.slot in
+    let e = c.in_ok-found.ensures in
+    let all = feed_reads_on g.S.Shelf.told g.S.Shelf.opened g.S.Shelf.faults _ _ _ first c.lines.feed f _ below c.lines.invariant.so_far c.lines.invariant.slot c.lines.invariant.lines e.reads in
+    let found = c.in-Some.found in
+    let front = subst (λ r. MatchOption r (IsAtEnd told f) (λ x. IsFront told f x.len x.whole)) c.in-Some.is e.line in
+    let line_is : c.stream_line-line.result ≡ stream_line (seen (take found.len f.pending)) = c.stream_line-line.ensures ∙ ap stream_line c.text.ensures in
+    subst (λ (x : Feed). FeedReads g.S.Shelf.told g.S.Shelf.opened g.S.Shelf.faults c.args.shelf.now c.find.new.shelf first x None) (sym c.skip.ensures)
+    (feed_reads_answered g.S.Shelf.told g.S.Shelf.opened g.S.Shelf.faults _ _ first f found.whole (front_some told f found.len found.whole front) (front_within told f found.len found.whole front) all)
+
+pub returns-in-Commit-clause-batch : goal.returns-in-Commit-clause-batch
+returns-in-Commit-clause-batch g c =
+    let first = c.args.feed.now in
+    let f = c.find.new.self in
+    let start = g.S.Shelf.told c.args.shelf.now in
+    let told = g.S.Shelf.told c.find.new.shelf in
+    let below = slot_told start (g.S.Shelf.opened c.args.shelf.now) first.slot (g.met.S.Shelf.tells_slots c.args.shelf.now) c.requires.slot in
+    let e = c.in_ok-found.ensures in
+    let all = feed_reads_on g.S.Shelf.told g.S.Shelf.opened g.S.Shelf.faults _ _ _ first c.lines.feed f _ below c.lines.invariant.so_far c.lines.invariant.slot c.lines.invariant.lines e.reads in
+    let found = c.in-Some.found in
+    let front = subst (λ r. MatchOption r (IsAtEnd told f) (λ x. IsFront told f x.len x.whole)) c.in-Some.is e.line in
+    let line_is : c.stream_line-line.result ≡ stream_line (seen (take found.len f.pending)) = c.stream_line-line.ensures ∙ ap stream_line c.text.ensures in
+    let read = open_found (g.S.Shelf.told c.lines.shelf) told c.lines.feed f c.lines.open e.lines e.ahead ∙ c.lines.invariant.read in
+    let commit = sym line_is ∙ c.in-Commit.is in
+    let number : c.lines-number.result ≡ f.lines = c.lines-number.ensures.value in
+    let batch_is : c.commit.result ≡ committed c.lines.open (f.lines + 1) = c.commit.ensures.batch ∙ ap (λ (n : ℕ). committed c.lines.open (n + 1)) number in
+    sym read
+    ∙ open_commit unfinished c.lines.open (f.lines + 1) (seen (take found.len f.pending)) (ahead told f) (ahead told (answered found.whole f)) c.lines.invariant.paired (ahead_front told f found.len found.whole front) commit
+    ∙ ap (λ (x : BatchText). option_map (λ rest. x ∷ rest) (batches_ahead told (answered found.whole f))) (sym batch_is)
+    ∙ ap (λ (x : Feed). option_map (λ rest. c.commit.result ∷ rest) (batches_ahead told x)) (sym c.skip.ensures)
+
+pub returns-in-Commit-clause-first : goal.returns-in-Commit-clause-first
+returns-in-Commit-clause-first g c =
+    let first = c.args.feed.now in
+    let f = c.find.new.self in
+    let start = g.S.Shelf.told c.args.shelf.now in
+    let told = g.S.Shelf.told c.find.new.shelf in
+    let below = slot_told start (g.S.Shelf.opened c.args.shelf.now) first.slot (g.met.S.Shelf.tells_slots c.args.shelf.now) c.requires.slot in
+    let e = c.in_ok-found.ensures in
+    let all = feed_reads_on g.S.Shelf.told g.S.Shelf.opened g.S.Shelf.faults _ _ _ first c.lines.feed f _ below c.lines.invariant.so_far c.lines.invariant.slot c.lines.invariant.lines e.reads in
+    let found = c.in-Some.found in
+    let front = subst (λ r. MatchOption r (IsAtEnd told f) (λ x. IsFront told f x.len x.whole)) c.in-Some.is e.line in
+    let line_is : c.stream_line-line.result ≡ stream_line (seen (take found.len f.pending)) = c.stream_line-line.ensures ∙ ap stream_line c.text.ensures in
+    let ended : (most : ℕ) → f.taken ≤ most → EndsAhead start told first f c.lines.open most = λ most few.
+        ends_found start (g.S.Shelf.told c.lines.shelf) told first c.lines.feed f c.lines.open most e.lines (e.ended most few) (c.lines.invariant.ended most (let later = e.reads.reads.later in omega arith)) in
+    let alike : option_map (λ _. []) told ≡ (let o : Option (List BatchText) = option_map (λ _. []) start in o) = told_alike [] start told first.slot _ all.reads.takes in
+    let short : IsLastLine told f found.len found.whole → IfSome start (λ t. ¬ MeetsLimit first t) = limit_not_last start told first f below all.slot all.reads.later all.reads.takes found.len found.whole in
+    let commit = sym line_is ∙ c.in-Commit.is in
+    let number : c.lines-number.result ≡ f.lines = c.lines-number.ensures.value in
+    let batch_is : c.commit.result ≡ committed c.lines.open (f.lines + 1) = c.commit.ensures.batch ∙ ap (λ (n : ℕ). committed c.lines.open (n + 1)) number in
+    λ most few.
+    let skipped = ap (λ (x : Feed). x.taken) c.skip.ensures in
+    let h = ends_commit start told first f c.lines.open most c.lines.invariant.paired alike found.len found.whole short front commit (ended most (omega arith)) in
+    subst (λ (x : Feed). IsFirstEnded c.commit.result most start told first x) (sym c.skip.ensures) (subst (λ (y : BatchText). IsFirstEnded y most start told first (answered found.whole f)) (sym batch_is) h)
 
 pub returns-in-Commit-clause-not_stuck : goal.returns-in-Commit-clause-not_stuck
 returns-in-Commit-clause-not_stuck g c =
@@ -59,85 +212,71 @@ returns-in-Commit-clause-not_stuck g c =
     let f = c.find.new.self in
     let start = g.S.Shelf.told c.args.shelf.now in
     let told = g.S.Shelf.told c.find.new.shelf in
-    let found = c.in-Some.found in
-    let front = subst (λ r. MatchOption r (IsAtEnd told f) (λ x. IsFront told f x.len x.whole)) c.in-Some.is c.in_ok-found.ensures.line in
-    let line_is : c.stream_line-line.result ≡ stream_line (seen (take found.len f.pending)) = c.stream_line-line.ensures ∙ ap stream_line c.text.ensures in
     let below = slot_told start (g.S.Shelf.opened c.args.shelf.now) first.slot (g.met.S.Shelf.tells_slots c.args.shelf.now) c.requires.slot in
-    let slot = c.in_ok-found.ensures.slot ∙ c.lines.invariant.slot in
-    let advances = Advances-on _ _ _ _ _ _ _ below c.lines.invariant.advances c.lines.invariant.later _ c.lines.invariant.slot c.in_ok-found.ensures.advances c.in_ok-found.ensures.later in
-    let early = c.lines.invariant.later in
-    let late = c.in_ok-found.ensures.later in
-    let later : first.taken ≤ f.taken = omega arith in
-    batch_not_stuck start told first f _
-    (λ limit. ap (option_map has_commit) c.in_ok-found.ensures.ended_ahead ∙ c.lines.invariant.ended limit)
-    (λ limit. commit_here told f found.len found.whole front (limit_later start told first f below slot later advances limit) c.stream_line-line.result line_is c.in-Commit.is)
+    let e = c.in_ok-found.ensures in
+    let all = feed_reads_on g.S.Shelf.told g.S.Shelf.opened g.S.Shelf.faults _ _ _ first c.lines.feed f _ below c.lines.invariant.so_far c.lines.invariant.slot c.lines.invariant.lines e.reads in
+    let found = c.in-Some.found in
+    let front = subst (λ r. MatchOption r (IsAtEnd told f) (λ x. IsFront told f x.len x.whole)) c.in-Some.is e.line in
+    let line_is : c.stream_line-line.result ≡ stream_line (seen (take found.len f.pending)) = c.stream_line-line.ensures ∙ ap stream_line c.text.ensures in
+    let ended : (most : ℕ) → f.taken ≤ most → EndsAhead start told first f c.lines.open most = λ most few.
+        ends_found start (g.S.Shelf.told c.lines.shelf) told first c.lines.feed f c.lines.open most e.lines (e.ended most few) (c.lines.invariant.ended most (let later = e.reads.reads.later in omega arith)) in
+    let alike : option_map (λ _. []) told ≡ (let o : Option (List BatchText) = option_map (λ _. []) start in o) = told_alike [] start told first.slot _ all.reads.takes in
+    let short : IsLastLine told f found.len found.whole → IfSome start (λ t. ¬ MeetsLimit first t) = limit_not_last start told first f below all.slot all.reads.later all.reads.takes found.len found.whole in
+    let commit = sym line_is ∙ c.in-Commit.is in
+    batch_not_stuck start told first f c.lines.open found.len found.whole c.lines.invariant.paired short front commit (ended MOST_BYTES e.reads.reads.most)
+
+pub returns-in_err-take_line-clause-reads : goal.returns-in_err-take_line-clause-reads
+returns-in_err-take_line-clause-reads g c =
+    let first = c.args.feed.now in
+    let f = c.find.new.self in
+    let start = g.S.Shelf.told c.args.shelf.now in
+    let told = g.S.Shelf.told c.find.new.shelf in
+    let below = slot_told start (g.S.Shelf.opened c.args.shelf.now) first.slot (g.met.S.Shelf.tells_slots c.args.shelf.now) c.requires.slot in
+    let e = c.in_ok-found.ensures in
+    let all = feed_reads_on g.S.Shelf.told g.S.Shelf.opened g.S.Shelf.faults _ _ _ first c.lines.feed f _ below c.lines.invariant.so_far c.lines.invariant.slot c.lines.invariant.lines e.reads in
+    let found = c.in-Some.found in
+    let front = subst (λ r. MatchOption r (IsAtEnd told f) (λ x. IsFront told f x.len x.whole)) c.in-Some.is e.line in
+    let line_is : c.stream_line-line.result ≡ stream_line (seen (take found.len f.pending)) = c.stream_line-line.ensures ∙ ap stream_line c.text.ensures in
+    let h = feed_reads_starved g.S.Shelf.told g.S.Shelf.opened g.S.Shelf.faults _ _ first f (front_unspent told f found.len found.whole front) all in
+    search (rules, h)
 
 pub lines-preserved : goal.lines-preserved
 lines-preserved g c =
-    let b = c.lines.open in
+    let first = c.args.feed.now in
     let f = c.find.new.self in
-    let told = g.S.Shelf.told c.find.new.shelf in
-    let found = c.in-Some.found in
-    let front = subst (λ r. MatchOption r (IsAtEnd told f) (λ x. IsFront told f x.len x.whole)) c.in-Some.is c.in_ok-found.ensures.line in
-    let line_is : c.stream_line-line.result ≡ stream_line (seen (take found.len f.pending)) = c.stream_line-line.ensures ∙ ap stream_line c.text.ensures in
-    let number : c.lines-number.result ≡ f.lines = c.lines-number.ensures.value in
-    let taken : c.take_line.new.self ≡ with_line b (f.lines + 1) c.stream_line-line.result = c.in-Ok.ensures.taken ∙ ap (λ n. with_line b (n + 1) c.stream_line-line.result) number in
-    let so_far : open_ahead b told f ≡ batches_ahead (g.S.Shelf.told c.args.shelf.now) c.args.feed.now =
-    ap (λ a. option_map (batches_from b (f.lines + 1)) a) c.in_ok-found.ensures.ahead ∙ ap (λ n. option_map (batches_from b (n + 1)) (ahead (g.S.Shelf.told c.lines.shelf) c.lines.feed)) c.in_ok-found.ensures.lines ∙ c.lines.invariant.read in
-    let skipped = ap (λ (x : Feed). x.taken) c.skip-in-lines.ensures in
-    let counted = ap (λ (x : Feed). x.lines) c.skip-in-lines.ensures in
-    let kept = c.in_ok-found.ensures.lines in
-    let early = c.lines.invariant.later in
-    let late = c.in_ok-found.ensures.later in
-    let before = c.lines.invariant.lines in
     let start = g.S.Shelf.told c.args.shelf.now in
-    let below = slot_told start (g.S.Shelf.opened c.args.shelf.now) c.args.feed.now.slot (g.met.S.Shelf.tells_slots c.args.shelf.now) c.requires.slot in
-    let slot = c.in_ok-found.ensures.slot ∙ c.lines.invariant.slot in
-    let advances = Advances-on _ _ _ _ _ _ _ below c.lines.invariant.advances c.lines.invariant.later _ c.lines.invariant.slot c.in_ok-found.ensures.advances c.in_ok-found.ensures.later in
-    let later : c.args.feed.now.taken ≤ f.taken = omega arith in
+    let told = g.S.Shelf.told c.find.new.shelf in
+    let below = slot_told start (g.S.Shelf.opened c.args.shelf.now) first.slot (g.met.S.Shelf.tells_slots c.args.shelf.now) c.requires.slot in
+    let e = c.in_ok-found.ensures in
+    let all = feed_reads_on g.S.Shelf.told g.S.Shelf.opened g.S.Shelf.faults _ _ _ first c.lines.feed f _ below c.lines.invariant.so_far c.lines.invariant.slot c.lines.invariant.lines e.reads in
+    let found = c.in-Some.found in
+    let front = subst (λ r. MatchOption r (IsAtEnd told f) (λ x. IsFront told f x.len x.whole)) c.in-Some.is e.line in
+    let line_is : c.stream_line-line.result ≡ stream_line (seen (take found.len f.pending)) = c.stream_line-line.ensures ∙ ap stream_line c.text.ensures in
+    let read = open_found (g.S.Shelf.told c.lines.shelf) told c.lines.feed f c.lines.open e.lines e.ahead ∙ c.lines.invariant.read in
+    let ended : (most : ℕ) → f.taken ≤ most → EndsAhead start told first f c.lines.open most = λ most few.
+        ends_found start (g.S.Shelf.told c.lines.shelf) told first c.lines.feed f c.lines.open most e.lines (e.ended most few) (c.lines.invariant.ended most (let later = e.reads.reads.later in omega arith)) in
+    let alike : option_map (λ _. []) told ≡ (let o : Option (List BatchText) = option_map (λ _. []) start in o) = told_alike [] start told first.slot _ all.reads.takes in
+    let short : IsLastLine told f found.len found.whole → IfSome start (λ t. ¬ MeetsLimit first t) = limit_not_last start told first f below all.slot all.reads.later all.reads.takes found.len found.whole in
+    let n = f.lines + 1 in
+    let number : c.lines-number.result ≡ f.lines = c.lines-number.ensures.value in
+    let other : stream_line (seen (take found.len f.pending)) ≡ Commit → ⊥ = λ is. c.in_default-line.not-Commit (line_is ∙ is) in
+    let taken : c.take_line.new.self ≡ with_line c.lines.open n (stream_line (seen (take found.len f.pending))) =
+    c.in_ok-take_line.ensures.taken ∙ ap (λ (k : ℕ). with_line c.lines.open (k + 1) c.stream_line-line.result) number ∙ ap (with_line c.lines.open n) line_is in
+    let skipped = c.skip-in-lines.ensures in
+    let same_taken = ap (λ (x : Feed). x.taken) skipped in
+    let counted = ap (λ (x : Feed). x.lines) skipped in
+    let more = all.no_fewer_lines in
     record {
-      ended = λ limit.
-          let here = limit_later start told c.args.feed.now f below slot later advances limit in
-          ap (commit_ahead told) c.skip-in-lines.ensures
-          ∙ commit_behind told f found.len found.whole front here c.stream_line-line.result line_is c.in_default-line.not-Commit
-          ∙ ap (option_map has_commit) c.in_ok-found.ensures.ended_ahead ∙ c.lines.invariant.ended limit;
-      read = ap (open_ahead c.take_line.new.self told) c.skip-in-lines.ensures ∙ open_line b told f found.len found.whole front c.stream_line-line.result line_is c.in_default-line.not-Commit c.take_line.new.self taken ∙ so_far;
-      paired = c.in-Ok.ensures.paired;
+      so_far = subst (λ (k : ℕ). SoFar g.S.Shelf.told g.S.Shelf.opened g.S.Shelf.faults c.args.shelf.now c.find.new.shelf first.slot first.taken k) (sym same_taken)
+          (so_far_on g.S.Shelf.told g.S.Shelf.opened g.S.Shelf.faults _ _ _ first.slot first.taken c.lines.feed.taken f.taken below c.lines.invariant.so_far _ c.lines.invariant.slot e.reads.reads);
+      read = ap (λ (x : Feed). open_on unfinished c.take_line.new.self (x.lines + 1) (ahead told x)) skipped
+          ∙ open_line unfinished c.lines.open n (seen (take found.len f.pending)) (ahead told f) (ahead told (answered found.whole f)) c.lines.invariant.paired (ahead_front told f found.len found.whole front) c.take_line.new.self other taken
+          ∙ read;
+      ended = λ most few. subst (λ (x : Feed). EndsAhead start told first x c.take_line.new.self most) (sym skipped)
+          (ends_more start told first f c.lines.open most c.lines.invariant.paired alike found.len found.whole short front c.take_line.new.self other taken (ended most (omega arith)));
+      paired = c.in_ok-take_line.ensures.paired;
       begun = λ h. absurd (omega arith);
       lines = omega arith;
-      slot = ap (λ (x : Feed). x.slot) c.skip-in-lines.ensures ∙ slot;
-      advances = subst (λ (n : ℕ). Advances start told c.args.feed.now.slot (n - c.args.feed.now.taken)) (sym skipped) advances;
-      later = omega arith;
-      calm = c.in_ok-found.ensures.calm ∙ c.lines.invariant.calm;
-      opened = c.in_ok-found.ensures.opened ∙ c.lines.invariant.opened;
-    }
-
-pub returns-in_default-take_line : goal.returns-in_default-take_line
-returns-in_default-take_line g c =
-    let kept = c.in_ok-found.ensures.lines in
-    let early = c.lines.invariant.later in
-    let late = c.in_ok-found.ensures.later in
-    let before = c.lines.invariant.lines in
-    let calm = c.in_ok-found.ensures.calm ∙ c.lines.invariant.calm in
-    record {
-      batch = tt;
-      none = tt;
-      end = tt;
-      few = tt;
-      paired = tt;
-      slot = c.in_ok-found.ensures.slot ∙ c.lines.invariant.slot;
-      no_fewer_lines = omega arith;
-      more_lines = tt;
-      most_lines = c.in_ok-found.ensures.most_lines;
-      advances = Advances-on _ _ _ _ _ _ _ (slot_told (g.S.Shelf.told c.args.shelf.now) (g.S.Shelf.opened c.args.shelf.now) c.args.feed.now.slot (g.met.S.Shelf.tells_slots c.args.shelf.now) c.requires.slot) c.lines.invariant.advances c.lines.invariant.later _ c.lines.invariant.slot c.in_ok-found.ensures.advances c.in_ok-found.ensures.later;
-      later = omega arith;
-      most = c.in_ok-found.ensures.most;
-      fewer = tt;
-      turns = tt;
-      stuck = tt;
-      not_stuck = tt;
-      cause = calm;
-      calm = tt;
-      no_fewer_faults = omega (arith, calm);
-      opened = c.in_ok-found.ensures.opened ∙ c.lines.invariant.opened;
+      slot = ap (λ (x : Feed). x.slot) skipped ∙ all.slot;
+      due = λ h. let wrong = e.due (subst IsSpent (sym (c.lines.invariant.due h)) h) in absurd (cc wrong);
     }

@@ -1,4 +1,5 @@
-use Rattle.std.proofs.Common.{ap, sym, ◌∙◌, ◌<◌, ◌*◌, ◌+◌, length, arith, pos, get_or, rules, FitsSigned, w64}
+use Rattle.std.proofs.Common.{ap, sym, ◌∙◌, ◌<◌, ◌*◌, ◌+◌, length, arith, pos, get_or, rules}
+use Rattle.std.proofs.Common.{FitsSigned, w64}
 use Rattle.std.proofs.lemmas.Int.{to_z-of_z}
 use Rattle.std.proofs.lemmas.List.{get_or_default}
 use Rattle.bolt_base.proofs.RowLemmas.{agg_is, lanes_is, vertices_is, count_is, place_inside}

@@ -1,0 +1,9 @@
+-- What a row stands for, however it is stored.
+use Rattle.std.specs.Prelude.{box_value}
+use Rattle.adjacency.specs.Row.{RowMap}
+use Rattle.adj_pages.specs.declared.paged_row.Form.{Form}
+use Rattle.adj_pages.specs.declared.paged_row.Form.TheVariants.{One, Many}
+
+abbrev pub stored : Form → RowMap
+stored (One row) = row
+stored (Many lists) = box_value lists

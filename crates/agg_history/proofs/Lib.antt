@@ -1,0 +1,16 @@
+pub mod Chunks
+pub mod CellLemmas
+pub mod PrunedLemmas
+pub mod PutLemmas
+pub mod NumberLemmas
+pub mod PlaceLemmas
+pub mod PlacesAre
+pub mod ListedLemmas
+pub mod LookupLemmas
+pub mod OverlayLemmas
+pub mod OverlayIs
+pub mod HistoryIs
+pub mod MakeLemmas
+pub mod DraftLemmas
+pub mod Grown
+pub mod GrownLemmas

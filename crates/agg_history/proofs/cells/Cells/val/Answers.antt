@@ -1,0 +1,25 @@
+use Rattle.std.proofs.Common.{◌∙◌, ◌+◌, ◌*◌, pos, arith, rules, FitsSigned, w64}
+use Rattle.std.proofs.lemmas.Int.{to_z-of_z}
+use Rattle.std.proofs.lemmas.List.{get_or_default}
+use Rattle.agg_history.proofs.CellLemmas.{val_inside, val_is}
+use Rattle.agg_history.proofs.cells.Cells.val.Goals as goal
+
+pub index-requires : goal.index-requires
+index-requires c = omega (
+  arith,
+  val_inside c.self.inside c.args.self.now c.self.view_is c.self.invariant c.args.j
+      c.requires.entry c.args.lane c.requires.lane,
+  c.self.inside.words.ok.0,
+)
+
+pub returns : goal.returns
+returns c =
+    let fits : FitsSigned w64 c.index.result.now = search rules in
+    to_z-of_z w64 c.index.result.now fits ∙ c.index.ensures
+    ∙ get_or_default c.self.inside.words.items
+    (c.args.j * (2 * c.self.inside.lanes) + c.self.inside.lanes + c.args.lane)
+    c.index.result.now (pos 0)
+    (val_inside c.self.inside c.args.self.now c.self.view_is c.self.invariant c.args.j
+    c.requires.entry c.args.lane c.requires.lane)
+    ∙ val_is c.self.inside c.args.self.now c.self.view_is c.self.invariant c.args.j c.requires.entry
+    c.args.lane c.requires.lane

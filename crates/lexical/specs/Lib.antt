@@ -1,0 +1,6 @@
+pub mod Bytes
+pub mod Words
+pub mod Numbers
+pub mod Lines
+pub mod Laws
+pub mod Seen

@@ -1,0 +1,17 @@
+pub mod Program
+pub mod Evaluable
+pub mod Rows
+pub mod Given
+pub mod Kept
+pub mod Steps
+pub mod Additions
+pub mod Refined
+pub mod Visits
+pub mod Logs
+pub mod RowLaws
+pub mod StepLaws
+pub mod TailLaws
+pub mod RefineLaws
+pub mod VisitLaws
+pub mod LogLaws
+pub mod KeptLaws

@@ -1,0 +1,101 @@
+// The values of all vertices, by several threads.
+ghost use Rattle.std.specs.Prelude.{◌≡◌, ◌<◌, IfOk};
+ghost use Rattle.bolt_base.specs.Graph.{IsGood, vertices};
+ghost use Rattle.range_check.specs.Breaks.{IsAccepted};
+ghost use Rattle.run_model.specs.Rows.{applied, at, begun, each_vertex, gathered};
+ghost use Rattle.run_model.specs.Given.{IsBefore, source_gives};
+
+use crate::contributions::source_gives;
+use crate::values::{first_value, next_value};
+use adjacency::Adjacency;
+use bolt_base::{Lanes, Memory};
+use rayon::prelude::*;
+use std::alloc::Global;
+use std::thread::Threads;
+use vertex_expr::Program;
+
+/// The first values.
+pub fn first_values_shared<R: Threads + Sync, A: Adjacency + Sync>(
+    rt: &R,
+    alloc: Global,
+    program: &Program,
+    graph: &A,
+) -> Result<Vec<Lanes>, Memory>
+    requires safe { IsAccepted program.now }
+    requires good { IsGood program.now.limits (A.plain graph.now) }
+    ensures { IfOk result (λ vals.
+        vals.items ≡ each_vertex (A.plain graph.now) (begun program.now (A.plain graph.now))) }
+{
+    let vals: Vec<Lanes> = (0..graph.vertices())
+        .into_par_iter()
+        .map(
+            |v: u32| -> Lanes
+                requires { IsAccepted program.now × IsGood program.now.limits (A.plain graph.now)
+                    × (v < vertices (A.plain graph.now)) }
+                ensures { result ≡ begun program.entry.now (A.plain graph.entry.now) v }
+            { first_value(program, graph, v) },
+        )
+        .collect(rt, alloc)?;
+    Ok(vals)
+}
+
+/// The values after these aggregates and the values before.
+pub fn next_values_shared<R: Threads + Sync, A: Adjacency + Sync>(
+    rt: &R,
+    alloc: Global,
+    program: &Program,
+    graph: &A,
+    aggs: &[Lanes],
+    vals: &[Lanes],
+) -> Result<Vec<Lanes>, Memory>
+    requires before { IsBefore program.now (A.plain graph.now) vals.now }
+    requires aggs { aggs.now
+        ≡ each_vertex (A.plain graph.now) (gathered program.now (A.plain graph.now) vals.now) }
+    ensures { IfOk result (λ next.
+        next.items ≡ each_vertex (A.plain graph.now) (λ v.
+        applied program.now (A.plain graph.now)
+        (gathered program.now (A.plain graph.now) vals.now v) (at vals.now v) v)) }
+{
+    let next: Vec<Lanes> = (0..graph.vertices())
+        .into_par_iter()
+        .map(
+            |v: u32| -> Lanes
+                requires { IsBefore program.now (A.plain graph.now) vals.now
+                    × (aggs.now ≡ each_vertex (A.plain graph.now)
+                    (gathered program.now (A.plain graph.now) vals.now))
+                    × (v < vertices (A.plain graph.now)) }
+                ensures { result ≡ applied program.entry.now (A.plain graph.entry.now)
+                    (gathered program.entry.now (A.plain graph.entry.now) vals.entry.now v)
+                    (at vals.entry.now v) v }
+            { next_value(program, graph, aggs, vals, v) },
+        )
+        .collect(rt, alloc)?;
+    Ok(next)
+}
+
+/// What the edges out of each vertex give after a row of values, where weights don't matter.
+pub fn sources_give_shared<R: Threads + Sync, A: Adjacency + Sync>(
+    rt: &R,
+    alloc: Global,
+    program: &Program,
+    graph: &A,
+    vals: &[Lanes],
+) -> Result<Vec<Lanes>, Memory>
+    requires before { IsBefore program.now (A.plain graph.now) vals.now }
+    ensures { IfOk result (λ given.
+        given.items ≡ each_vertex (A.plain graph.now)
+        (source_gives program.now (A.plain graph.now) vals.now)) }
+{
+    let given: Vec<Lanes> = (0..graph.vertices())
+        .into_par_iter()
+        .map(
+            |u: u32| -> Lanes
+                requires { IsBefore program.now (A.plain graph.now) vals.now
+                    × (u < vertices (A.plain graph.now)) }
+                ensures { result ≡ source_gives program.entry.now
+                    (A.plain graph.entry.now) vals.entry.now u }
+            { source_gives(program, graph, vals, u) },
+        )
+        .collect(rt, alloc)?;
+    Ok(given)
+}
