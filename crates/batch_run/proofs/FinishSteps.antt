@@ -69,8 +69,8 @@ module _ (op : Content → Result Opening Reply) (before : Content → List Name
   pub Conducts-unopened : (e : Stop) → e ≢ ShelfFailed → e ≢ TooLong → Replied (λ c. reply_of (op c) c) told a b (Err e) → SinkCause g h e
       → Conducts op before m p (world_of told i f a g) (world_of told i f b h) (Err e)
   Conducts-unopened e not_shelf not_long reply sink =
-      let reads : Reads (λ c. before c ++ stream_of (op c)) IsMade m p told told i i (let r : Result ℕ Stop = Err e in r) =
-          Reads-none (λ c. before c ++ stream_of (op c)) IsMade m p told told i i e refl refl (λ wrong. not_long (cc)) in
+      let reads : Reads (λ c. before c ++ stream_of (op c) c) IsMade m p told told i i (let r : Result ℕ Stop = Err e in r) =
+          Reads-none (λ c. before c ++ stream_of (op c) c) IsMade m p told told i i e refl refl (λ wrong. not_long (cc)) in
       record {
         reply = reply;
         reads = reads;
@@ -82,8 +82,8 @@ module _ (op : Content → Result Opening Reply) (before : Content → List Name
   -- its first file couldn't be opened
   pub Conducts-unread : (later : Option Told) (k n : ℕ) (e : Stop) → later ≡ told → k ≡ i → e ≢ TooLong → e ≢ SinkFailed → ShelfCause f n e → Conducts op before m p (world_of told i f a g) (world_of later k n a g) (Err e)
   Conducts-unread later k n e same count not_long not_sink shelf =
-      let reads : Reads (λ c. before c ++ stream_of (op c)) IsMade m p told later i k (let r : Result ℕ Stop = Err e in r) =
-          Reads-none (λ c. before c ++ stream_of (op c)) IsMade m p told later i k e same count (λ wrong. not_long (cc)) in
+      let reads : Reads (λ c. before c ++ stream_of (op c) c) IsMade m p told later i k (let r : Result ℕ Stop = Err e in r) =
+          Reads-none (λ c. before c ++ stream_of (op c) c) IsMade m p told later i k e same count (λ wrong. not_long (cc)) in
       record {
         reply = Replied-unwritten told a a (λ (c : Content). reply_of (op c) c) e refl;
         reads = reads;
@@ -97,8 +97,8 @@ module _ (op : Content → Result Opening Reply) (before : Content → List Name
       → ((s : ℕ) → s ≡ refusal.status → p s ≡ 0) → IfErr r IsOfWriting → BlamesSink r g h
       → Conducts op before m p (world_of told i f a g) (world_of told i f b h) r
   Conducts-refused refusal (Ok s) is none gives same own slots writing sink =
-      let reads : Reads (λ c. before c ++ stream_of (op c)) IsMade m p told told i i (let r : Result ℕ Stop = Ok s in r) =
-          Reads-nothing (λ c. before c ++ stream_of (op c)) IsMade m p told told i i s refl refl (not_made s same) (slots s same) (no_files told is none) in
+      let reads : Reads (λ c. before c ++ stream_of (op c) c) IsMade m p told told i i (let r : Result ℕ Stop = Ok s in r) =
+          Reads-nothing (λ c. before c ++ stream_of (op c) c) IsMade m p told told i i s refl refl (not_made s same) (slots s same) (no_files told is none) in
       record {
         reply = Replied-known told a b (λ (c : Content). reply_of (op c) c) refusal (Ok s) (told_map (λ t. op (content t) ≡ Err refusal) (λ t. reply_of (op (content t)) (content t) ≡ refusal) told (λ t same. ap (λ (x : Result Opening Reply). reply_of x (content t)) same) is) gives;
         reads = reads;
@@ -111,9 +111,9 @@ module _ (op : Content → Result Opening Reply) (before : Content → List Name
       not_made s same (inl none) = omega (arith, same, own, none)
       not_made s same (inr one) = omega (arith, same, own, one)
 
-      no_files : (o : Option Told) → IfSome o (λ t. op (content t) ≡ Err refusal) → IfSome o (λ t. before (content t) ≡ []) → IfSome o (λ t. before (content t) ++ stream_of (op (content t)) ≡ [])
+      no_files : (o : Option Told) → IfSome o (λ t. op (content t) ≡ Err refusal) → IfSome o (λ t. before (content t) ≡ []) → IfSome o (λ t. before (content t) ++ stream_of (op (content t)) (content t) ≡ [])
       no_files None is none = tt
-      no_files (Some t) is none = ap (λ (x : Result Opening Reply). before (content t) ++ stream_of x) is ∙ ap (λ (l : List Named). l ++ []) none
+      no_files (Some t) is none = ap (λ (x : Result Opening Reply). before (content t) ++ stream_of x (content t)) is ∙ ap (λ (l : List Named). l ++ []) none
   Conducts-refused refusal (Err e) is none gives same own slots writing sink =
       Conducts-unopened e writing.0 writing.1 (Replied-known told a b (λ (c : Content). reply_of (op c) c) refusal (Err e) (told_map (λ t. op (content t) ≡ Err refusal) (λ t. reply_of (op (content t)) (content t) ≡ refusal) told (λ t same. ap (λ (x : Result Opening Reply). reply_of x (content t)) same) is) gives) sink
 
@@ -124,6 +124,7 @@ module _ {S : Type 0} (steps : Steps S) (s : S) (text stream : List ℕ) (told :
   begun-behind (slot ∷ more) t h = (
     record {
       opening = Leads-then a b new.written text wrote h.0.opening;
+      kept_up = λ is. Leads-behind a b new.written text _ wrote (h.0.kept_up is);
     },
     begun-behind more t h.1,
   )
@@ -149,9 +150,9 @@ module _ {T S : Type 0} (state : T → S) (taken : T → ℕ) (steps : Steps S) 
     reply = Replied-later told mid a new.written (λ (c : Content). reply_of (course state steps stream opened) c) (λ (c : Content). reply_of (op c) c) r (with_slots first.more) (λ t. refl) first.told
         (told_map (λ t. course state steps stream opened ≡ op (content t)) (λ t. reply_of (op (content t)) (content t) ≡ reply_of (course state steps stream opened) (content t)) told (λ t same. ap (λ (x : Result Opening Reply). reply_of x (content t)) (sym same)) is)
         later.reply;
-    reads = Reads-then before (λ c. before c ++ stream_of (op c)) IsRun IsMade m 1 p stream_slots q told (λ c. stream_of (course state steps stream opened)) mid new.told i j new.opened opened r first (made_of r opened ready ends) (sums_of r) later.reads
-        (told_map (λ t. course state steps stream opened ≡ op (content t)) (λ t. before (content t) ++ stream_of (op (content t)) ≡ before (content t) ++ stream_of (course state steps stream opened)) told
-        (λ t same. ap (λ (x : Result Opening Reply). before (content t) ++ stream_of x) (sym same)) is);
+    reads = Reads-then before (λ c. before c ++ stream_of (op c) c) IsRun IsMade m 1 p stream_slots q told (λ c. stream_of (course state steps stream opened) c) mid new.told i j new.opened opened r first (made_of r opened ready ends) (sums_of r) later.reads
+        (told_map (λ t. course state steps stream opened ≡ op (content t)) (λ t. before (content t) ++ stream_of (op (content t)) (content t) ≡ before (content t) ++ stream_of (course state steps stream opened) (content t)) told
+        (λ t same. ap (λ (x : Result Opening Reply). before (content t) ++ stream_of x (content t)) (sym same)) is);
     begun = begun-then told mid first.more later.reads.more first.told first.follows is later.begun;
     shelf_cause = later.shelf_cause;
     sink_cause = later.sink_cause;
@@ -183,7 +184,7 @@ module _ {T S : Type 0} (state : T → S) (taken : T → ℕ) (steps : Steps S) 
   pub Conducts-stopped : (new : Option Told) (k n : ℕ) (e : Stop) → Reads before IsRun m p told new i k (let x : Result (Opened T) Stop = Err e in x) → e ≢ SinkFailed → ShelfCause f n e
       → Conducts op before (m + 1) q (world_of told i f a g) (world_of new k n a g) (Err e)
   Conducts-stopped new k n e first reading shelf =
-      let reads : Reads (λ c. before c ++ stream_of (op c)) IsMade (m + 1) q told new i k (let r : Result ℕ Stop = Err e in r) = Reads-err before (λ c. before c ++ stream_of (op c)) IsRun IsMade m 1 p stream_slots q told (λ c. stream_of (op c)) new i k e first (told_all (λ t. before (content t) ++ stream_of (op (content t)) ≡ before (content t) ++ stream_of (op (content t))) told (λ t. refl)) in
+      let reads : Reads (λ c. before c ++ stream_of (op c) c) IsMade (m + 1) q told new i k (let r : Result ℕ Stop = Err e in r) = Reads-err before (λ c. before c ++ stream_of (op c) c) IsRun IsMade m 1 p stream_slots q told (λ c. stream_of (op c) c) new i k e first (told_all (λ t. before (content t) ++ stream_of (op (content t)) (content t) ≡ before (content t) ++ stream_of (op (content t)) (content t)) told (λ t. refl)) in
       let same : length reads.more ≡ length first.more = omega (arith, reads.count, first.count) in
       record {
         reply = Replied-unwritten told a a (λ (c : Content). reply_of (op c) c) e refl;

@@ -1,16 +1,18 @@
 -- What a call has done that is to read files and to write a text.
-use Rattle.std.specs.Prelude.{ℕ, List, [], ◌∷◌, ◌++◌, length, drop, Option, Result, IfSome, IfOk}
+use Rattle.std.specs.Prelude.{ℕ, List, [], ◌∷◌, ◌++◌, length, take, drop, Option, Result, IfSome, IfOk}
 use Rattle.bolt_io.specs.Told.{Told}
 use Rattle.bolt_io.specs.declared.files.Slot.{Slot}
 use Rattle.batch_steps.specs.declared.reply.Reply.{Reply}
 use Rattle.batch_steps.specs.Steps.{IsMade}
 use Rattle.batch_steps.specs.Files.{Content, Named}
 use Rattle.batch_steps.specs.Course.{Opening, reply_of, stream_of}
+use Rattle.batch_steps.specs.Ended.{ended_batches}
 use Rattle.command_files.specs.declared.stop.Stop.{Stop}
 use Rattle.command_files.specs.Files.{content}
 use Rattle.command_files.specs.Reads.{Reads}
 use Rattle.command_files.specs.Replied.{Replied, Leads}
 use Rattle.command_files.specs.Stops.{BlamesShelf, BlamesSink}
+use Rattle.batch_run.specs.Ahead.{IsReadStop}
 
 -- a shelf and a sink at one moment
 pub record World : Type 0 where
@@ -34,9 +36,11 @@ abbrev pub Each : (Slot → Type 0) → List Slot → Type 0
 Each P [] = Unit {0}
 Each P (s ∷ ss) = P s × Each P ss
 
--- what was written once the stream's slot was opened: the opening text
+-- what was written once the stream's slot was opened: the opening text, and where the reading stopped also what became of each
+-- batch that a `commit` ended in the bytes that were taken
 pub record Begun (o : Opening) (c : Content) (old new : Option (List ℕ)) (r : Result ℕ Stop) (s : Slot) : Type 0 where
   pub opening : Leads o.text old new
+  pub kept_up : IsReadStop r → Leads (o.text ++ o.of_batches (ended_batches (take s.taken (c o.stream)))) old new
 
 -- the same of the slots behind those of the files that are read before the stream: one, or none
 abbrev pub BegunAfter : (Content → Result Opening Reply) → (Content → List Named) → List Slot → Option Told
@@ -48,7 +52,7 @@ BegunAfter op before more told old new r = IfSome told (λ t. IfOk (op (content 
 pub record Conducts (op : Content → Result Opening Reply) (before : Content → List Named) (most : ℕ) (slots : ℕ → ℕ)
     (old new : World) (r : Result ℕ Stop) : Type 0 where
   pub reply : Replied (λ c. reply_of (op c) c) old.told old.written new.written r
-  pub reads : Reads (λ c. before c ++ stream_of (op c)) IsMade most slots old.told new.told old.opened new.opened r
+  pub reads : Reads (λ c. before c ++ stream_of (op c) c) IsMade most slots old.told new.told old.opened new.opened r
   pub begun : BegunAfter op before reads.more old.told old.written new.written r
   pub shelf_cause : BlamesShelf r old.shelf_faults new.shelf_faults
   pub sink_cause : BlamesSink r old.sink_faults new.sink_faults

@@ -1,4 +1,5 @@
 // Runs over the stream of a file.
+ghost use Rattle.bolt_io.specs.declared.whole.TheConstants.{MOST_BYTES};
 ghost use Rattle.std.specs.Prelude.{◌≡◌, ◌+◌, ◌<◌, ◌≤◌, ◌^◌, Ok, [], length, IfOk, OnOk, IfErr};
 ghost use Rattle.std.specs.Prelude.{IfSome, IsErrOf};
 ghost use Rattle.bolt_io.specs.Told.{left};
@@ -43,11 +44,12 @@ fn run_slot<S: Shelf, K: Sink, B: BatchRun>(
         (K.written out.old) (K.written out.new) result }
     ensures appended { Appended (K.written out.old) (K.written out.new) }
     ensures made { IfOk result IsMade }
-    ensures short { OnOk result (IfSome (S.told shelf.old) (λ t. length (left t slot) < 2 ^ 40)) }
+    ensures short { OnOk result (IfSome (S.told shelf.old)
+        (λ t. length (left t slot) < MOST_BYTES)) }
     ensures end { OnOk result (IfSome (S.told shelf.new) (λ t. left t slot ≡ [])) }
     ensures opened { S.opened shelf.new ≡ S.opened shelf.old }
     ensures too_long { IsErrOf result Stop.TooLong
-        → IfSome (S.told shelf.old) (λ t. 2 ^ 40 ≤ length (left t slot)) }
+        → IfSome (S.told shelf.old) (λ t. MOST_BYTES ≤ length (left t slot)) }
     ensures shelf_cause { BlamesShelf result (S.faults shelf.old) (S.faults shelf.new) }
     ensures sink_cause { BlamesSink result (K.faults out.old) (K.faults out.new) }
 {

@@ -2,3 +2,4 @@ pub mod Steps
 pub mod Files
 pub mod Course
 pub mod Graphs
+pub mod Ended

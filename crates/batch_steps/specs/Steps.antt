@@ -18,6 +18,11 @@ abbrev pub rest_reply : {S : Type 0} → Steps S → S → List BatchText → Re
 rest_reply steps s [] = steps.end s
 rest_reply steps s (b ∷ bs) = behind (steps.text s b) (rest_reply steps (steps.next s b) bs)
 
+-- what is written of them alone
+abbrev pub batch_texts : {S : Type 0} → Steps S → S → List BatchText → List ℕ
+batch_texts steps s [] = []
+batch_texts steps s (b ∷ bs) = steps.text s b ++ batch_texts steps (steps.next s b) bs
+
 -- a status of a run that was made to its end: 0, or 1 where a batch was refused
 abbrev pub IsMade : ℕ → Type 0
 IsMade status = (status ≡ 0) ⊎ (status ≡ 1)

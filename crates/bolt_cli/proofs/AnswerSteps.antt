@@ -1,5 +1,5 @@
 -- How a command's result is its status.
-use Rattle.std.specs.Prelude.{◌≡◌, ◌≢◌, ◌⊎◌, ℕ, ◌+◌, ◌≤◌, List, ◌++◌, [], ◌∷◌, length, drop, Option, Some, None, Result, Ok, Err, IfSome, IfOk}
+use Rattle.std.specs.Prelude.{◌≡◌, ◌≢◌, ◌⊎◌, ℕ, ◌+◌, ◌≤◌, List, ◌++◌, [], ◌∷◌, length, take, drop, Option, Some, None, Result, Ok, Err, IfSome, IfOk}
 use Rattle.std.proofs.Common.{refl, sym, ap, subst, arith, inl, inr}
 use Rattle.bolt_io.specs.Faults.{Rose}
 use Rattle.bolt_io.specs.Told.{Told}
@@ -8,6 +8,7 @@ use Rattle.bolt_io.specs.declared.files.Slot.{Slot}
 use Rattle.batch_steps.specs.declared.reply.Reply.{Reply}
 use Rattle.batch_steps.specs.Steps.{IsMade}
 use Rattle.batch_steps.specs.Course.{Opening, stream_of}
+use Rattle.batch_steps.specs.Ended.{ended_batches}
 use Rattle.batch_steps.specs.Files.{Content}
 use Rattle.command_files.specs.declared.stop.Stop.{Stop}
 use Rattle.command_files.specs.declared.stop.Stop.TheVariants.{ShelfFailed, SinkFailed, Memory, TooLong}
@@ -16,6 +17,7 @@ use Rattle.command_files.specs.Reads.{Follows, Reads}
 use Rattle.command_files.specs.Replied.{Gives, Replied, Leads}
 use Rattle.command_files.specs.Stops.{ShelfCause, SinkCause, status_of}
 use Rattle.command_files.proofs.ReadSteps.{told_all, told_map}
+use Rattle.batch_run.specs.Ahead.{IsReadStop}
 use Rattle.batch_run.specs.Conducts.{World, Each, Begun, Conducts}
 use Rattle.command_text.specs.Still.{opening, files_before, files_read, still, named, opened_with, IsDecided, IsDecided_by}
 use Rattle.output_text.specs.Words.{wrong_at}
@@ -96,6 +98,19 @@ own_status : (words : List (List ℕ)) (n : ℕ) → IsDecided words n → IsOwn
 unfolding IsDecided
 own_status words n h = own_by (wrong_at words) n h
 
+-- a reading stopped where the status is 5 or 8
+read_stop : (e : Stop) → (status_of e ≡ 5) ⊎ (status_of e ≡ 8) → IsReadStop (let r : Result ℕ Stop = Err e in r)
+read_stop ShelfFailed h = inl refl
+read_stop TooLong h = inr refl
+read_stop SinkFailed (inl is) = absurd (omega (arith, is))
+read_stop SinkFailed (inr is) = absurd (omega (arith, is))
+read_stop Memory (inl is) = absurd (omega (arith, is))
+read_stop Memory (inr is) = absurd (omega (arith, is))
+
+late : (n : ℕ) → (n ≡ 5) ⊎ (n ≡ 8) → IsOwn n → ⊥
+late n (inl is) own = omega (arith, own_below n own, is)
+late n (inr is) own = omega (arith, own_below n own, is)
+
 -- what holds of each slot of the stream
 OfStream-map : (words : List (List ℕ)) (more : List Slot) (told : Option Told) (P Q : Opening → Content → Slot → Type 0) → ((o : Opening) (c : Content) (s : Slot) → P o c s → Q o c s) → OfStream words more told P → OfStream words more told Q
 OfStream-map words more None P Q step h = tt
@@ -133,6 +148,7 @@ module _ (words : List (List ℕ)) (old new : World) where
         within = h.reads.within;
         full = λ _. h.reads.full;
         begun = OfStream-map words h.reads.more old.told (λ o c x. Begun o c old.written new.written (Ok s) x) (λ o c x. Leads o.text old.written new.written) (λ o c x b. b.opening) h.begun;
+        kept_up = λ is. absurd (late s is own);
         too_long = λ is. absurd (omega (arith, own_below s own, is));
         not_long = λ _. told_map F (λ t. ¬ MeetsLong (content t) (files_read words (content t))) old.told (λ t g. g.not_long) h.reads.follows;
         shelf_failed = λ is. absurd (omega (arith, own_below s own, is));
@@ -161,6 +177,7 @@ module _ (words : List (List ℕ)) (old new : World) where
         within = h.reads.within;
         full = λ d. absurd (not_decided (status_of e) (beyond e) d);
         begun = OfStream-map words h.reads.more old.told (λ o c x. Begun o c old.written new.written (Err e) x) (λ o c x. Leads o.text old.written new.written) (λ o c x b. b.opening) h.begun;
+        kept_up = λ is. OfStream-map words h.reads.more old.told (λ o c x. Begun o c old.written new.written (Err e) x) (λ o c x. Leads (o.text ++ o.of_batches (ended_batches (take x.taken (c o.stream)))) old.written new.written) (λ o c x b. b.kept_up (read_stop e is)) h.begun;
         too_long = λ is. told_map F (λ t. MeetsLong (content t) (files_read words (content t))) old.told (λ t g. g.too_long (ap (λ (x : Stop). let r : Result ℕ Stop = Err x in r) (is_too_long e is))) h.reads.follows;
         not_long = λ d. absurd (not_decided (status_of e) (beyond e) d);
         shelf_failed = shelf_rose e old.shelf_faults new.shelf_faults h.shelf_cause;

@@ -1,5 +1,5 @@
 -- What the top call promises, once for `bolt_still` and `bolt`.
-use Rattle.std.specs.Prelude.{◌≡◌, ◌≢◌, ◌⊎◌, ℕ, ◌+◌, ◌≤◌, List, ◌++◌, length, drop, Option, IfSome, IfOk}
+use Rattle.std.specs.Prelude.{◌≡◌, ◌≢◌, ◌⊎◌, ℕ, ◌+◌, ◌≤◌, List, ◌++◌, length, take, drop, Option, IfSome, IfOk}
 use Rattle.std.specs.Option.{option_map}
 use Rattle.bolt_io.specs.Faults.{Rose}
 use Rattle.bolt_io.specs.Told.{Told}
@@ -7,6 +7,7 @@ use Rattle.bolt_io.specs.Written.{Wrote, WrotePart}
 use Rattle.bolt_io.specs.declared.files.Slot.{Slot}
 use Rattle.batch_steps.specs.Steps.{IsMade}
 use Rattle.batch_steps.specs.Course.{Opening}
+use Rattle.batch_steps.specs.Ended.{ended_batches}
 use Rattle.batch_steps.specs.Files.{Content}
 use Rattle.command_files.specs.Files.{content, AreFirst, AreRead, MeetsLong}
 use Rattle.command_files.specs.Reads.{with_slots}
@@ -39,7 +40,7 @@ pub record Answers (words : List (List ℕ)) (old new : World) (status : ℕ) : 
   pub whole : IsOwn status → IfSome old.told (λ t. Wrote old.written new.written (still words (content t)).text)
   pub own : IsOwn status → IfSome old.told (λ t. status ≡ (still words (content t)).status)
   -- whatever the status, the files and the slots from before are as they were, and the slots more are of the first files of the
-  -- list, in order; with a decided status they are of all of them
+  -- list, in order, none of which was read further than it is to be; with a decided status they are of all of them
   pub more : List Slot
   pub slots : new.told ≡ option_map (with_slots more) old.told
   pub count : new.opened ≡ old.opened + length more
@@ -51,8 +52,11 @@ pub record Answers (words : List (List ℕ)) (old new : World) (status : ℕ) : 
   -- one with 4, and two with 0 or 1
   pub within : length more ≤ named words
   pub full : IsOwn status → length more ≡ opened_with words status
-  -- once the stream's slot was opened the opening text was written
+  -- once the stream's slot was opened the opening text was written, and with 5 and 8 also what became of each batch that a `commit`
+  -- ended in the bytes that were taken
   pub begun : OfStream words more old.told (λ o _ _. Leads o.text old.written new.written)
+  pub kept_up : (status ≡ 5) ⊎ (status ≡ 8) → OfStream words more old.told (λ o c s.
+      Leads (o.text ++ o.of_batches (ended_batches (take s.taken (c o.stream)))) old.written new.written)
   -- 8 comes only where one of the files gives 2^40 bytes without an end, and a decided status only where none does
   pub too_long : status ≡ 8 → IfSome old.told (λ t. MeetsLong (content t) (files_read words (content t)))
   pub not_long : IsOwn status → IfSome old.told (λ t. ¬ MeetsLong (content t) (files_read words (content t)))

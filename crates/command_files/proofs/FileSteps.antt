@@ -1,4 +1,5 @@
 -- A file that is opened and then read.
+use Rattle.bolt_io.specs.declared.whole.TheConstants.{MOST_BYTES}
 use Rattle.std.specs.Prelude.{◌≡◌, ℕ, ◌+◌, ◌-◌, ◌^◌, ◌<◌, ◌≤◌, Bool, true, List, [], ◌∷◌, ◌++◌, length, take, Option, Some, None, Result, Ok, Err, IfSome, IfOk, OnOk, IsErrOf, slice_set}
 use Rattle.std.specs.Option.{option_map}
 use Rattle.std.proofs.Common.{refl, sym, ◌∙◌, ap, subst, arith, inl, inr, zero-add, length-append, length-drop}
@@ -7,12 +8,12 @@ use Rattle.std.proofs.Math.Seq.{set-append_seam}
 use Rattle.bolt_io.specs.Told.{Told, no_slot, left, opened_at, taken_from, TellsSlots}
 use Rattle.bolt_io.specs.declared.files.Slot.{Slot}
 use Rattle.bolt_io.proofs.TakenLemmas.{left-opened_at, left-taken_from}
-use Rattle.text_lines.specs.Feed.{Advances, TookBytes}
+use Rattle.text_lines.specs.Feed.{Advances, readable}
 use Rattle.batch_steps.specs.Files.{Content, Named}
 use Rattle.command_files.specs.declared.stop.Stop.{Stop}
 use Rattle.command_files.specs.declared.stop.Stop.TheVariants.{TooLong}
-use Rattle.command_files.specs.Files.{content, whole_file, IsLong, MeetsLong}
-use Rattle.command_files.specs.Reads.{with_slots, Follows, Reads}
+use Rattle.command_files.specs.Files.{content, whole_file, IsNear, IsLong, MeetsLong}
+use Rattle.command_files.specs.Reads.{with_slots, TookTo, Follows, Reads}
 
 -- a slot of that file which has taken n bytes
 abbrev pub one_slot : List ℕ → ℕ → List Slot
@@ -47,15 +48,15 @@ opened_fact P Q None b k name step tells opened h = tt
 opened_fact P Q (Some t) b k name step tells opened h = step t tells (subst (λ (o : Option Told). IfSome o P) opened h)
 
 -- where nothing is left of a short file then, all that counts of it was taken
-all_taken : (t : Told) (k n : ℕ) (name : List ℕ) → length t.slots ≡ k → n ≤ length (left (opened_at name t) k) → length (left (opened_at name t) k) < 2 ^ 40 → left (taken_from k n (opened_at name t)) k ≡ [] → n ≡ length (content t name)
+all_taken : (t : Told) (k n : ℕ) (name : List ℕ) → length t.slots ≡ k → n ≤ length (left (opened_at name t) k) → length (left (opened_at name t) k) < MOST_BYTES → left (taken_from k n (opened_at name t)) k ≡ [] → n ≡ length (content t name)
 all_taken t k n name tells within short none =
     let after = opened_at name t in
     let size : length after.slots ≡ length t.slots + 1 = length-append t.slots _ in
     let below : k < length after.slots = omega (arith, size, tells) in
     let all : left after k ≡ whole_file t name = opened_left t k name tells in
     let over : length (left after k) - n ≡ 0 = sym (length-drop n (left after k)) ∙ ap length (sym (left-taken_from k after n 0 below) ∙ none) in
-    let few : length (whole_file t name) ≤ 2 ^ 40 = omega (arith, ap length all, short) in
-    let same : length (content t name) ≡ length (whole_file t name) = ap length (take_all (2 ^ 40) (whole_file t name) few) in
+    let few : length (whole_file t name) ≤ MOST_BYTES = omega (arith, ap length all, short) in
+    let same : length (content t name) ≡ length (whole_file t name) = ap length (take_all MOST_BYTES (whole_file t name) few) in
     omega (arith, ap length all, within, over, same)
 
 -- no slot more
@@ -100,10 +101,10 @@ Reads-nothing f D m p old new i k x told count not zero is = record {
     }
 
 -- one file was opened, and bytes of it were taken
-module _ {T : Type 0} (name : List ℕ) (to_end : List ℕ → Bool) (D : T → Type 0) where
-  -- the file
+module _ {T : Type 0} (name : List ℕ) (far : List ℕ → ℕ) (to_end : List ℕ → Bool) (D : T → Type 0) where
+  -- the file, and how far it is read
   abbrev file : Content → Named
-  file c = record { name = name; to_end = to_end (c name) }
+  file c = record { name = name; far = far (c name); to_end = to_end (c name) }
 
   pub one : (r : Result T Stop) → IfOk r (λ _. let n : ℕ = 1 in n ≡ 1)
   one (Ok x) = refl
@@ -115,15 +116,15 @@ module _ {T : Type 0} (name : List ℕ) (to_end : List ℕ → Bool) (D : T → 
   slot_is (Some t) mid new slot n at opened taken =
       taken ∙ ap (option_map (taken_from slot n)) opened ∙ ap (λ (j : ℕ). let o : Option Told = Some (taken_from j n (opened_at name t)) in o) (sym at) ∙ ap (λ (u : Told). let o : Option Told = Some u in o) (taken_from-opened_at name n t)
 
-  module _ (t : Told) (mid new : Option Told) (slot n : ℕ) (at : length t.slots ≡ slot) (taken : new ≡ Some (taken_from slot n (opened_at name t))) (opened : mid ≡ Some (opened_at name t)) (within : n ≤ length (left (opened_at name t) slot)) where
-    follows : (r : Result T Stop) → IfOk r (λ x. D x → IfSome mid (λ t. length (left t slot) < 2 ^ 40)) → IfOk r (λ x. D x → IfSome new (λ t. left t slot ≡ []))
+  module _ (t : Told) (mid new : Option Told) (slot n : ℕ) (at : length t.slots ≡ slot) (taken : new ≡ Some (taken_from slot n (opened_at name t))) (opened : mid ≡ Some (opened_at name t)) (within : n ≤ length (left (opened_at name t) slot)) (no_further : IsNear n (far (content t name))) where
+    follows : (r : Result T Stop) → IfOk r (λ x. D x → IfSome mid (λ t. length (left t slot) < MOST_BYTES)) → IfOk r (λ x. D x → IfSome new (λ t. left t slot ≡ []))
         → (IsErrOf r TooLong → IsLong (content t) (file (content t))) → OnOk r (¬ IsLong (content t) (file (content t)))
         → Follows (content t) (file (content t) ∷ []) D (one_slot name n) r
     follows (Ok x) short end too_long not_long = record {
-      first = (refl, tt);
+      first = (record { name = refl; within = no_further }, tt);
       all = refl;
       done = λ d.
-          let few : length (left (opened_at name t) slot) < 2 ^ 40 = subst (λ (o : Option Told). IfSome o (λ u. length (left u slot) < 2 ^ 40)) opened (short d) in
+          let few : length (left (opened_at name t) slot) < MOST_BYTES = subst (λ (o : Option Told). IfSome o (λ u. length (left u slot) < MOST_BYTES)) opened (short d) in
           let none : left (taken_from slot n (opened_at name t)) slot ≡ [] = subst (λ (o : Option Told). IfSome o (λ u. left u slot ≡ [])) taken (end d) in
           ((λ _. all_taken t slot n name at within few none), tt);
       too_long = λ wrong. cc;
@@ -134,33 +135,35 @@ module _ {T : Type 0} (name : List ℕ) (to_end : List ℕ → Bool) (D : T → 
         meets (inl long) = not_long long
         meets (inr none) = none
     follows (Err e) short end too_long not_long = record {
-      first = (refl, tt);
+      first = (record { name = refl; within = no_further }, tt);
       all = tt;
       done = tt;
       too_long = λ is. inl (too_long is);
       not_long = tt;
     }
 
-  pub all_follow : (old mid new : Option Told) (slot n : ℕ) (r : Result T Stop) → IfSome old (λ t. length t.slots ≡ slot) → mid ≡ option_map (opened_at name) old → Advances mid new slot n
-      → IfOk r (λ x. D x → IfSome mid (λ t. length (left t slot) < 2 ^ 40)) → IfOk r (λ x. D x → IfSome new (λ t. left t slot ≡ []))
+  pub all_follow : (old mid new : Option Told) (slot n : ℕ) (r : Result T Stop) → IfSome old (λ t. length t.slots ≡ slot) → mid ≡ option_map (opened_at name) old → Advances mid new slot n → IfSome mid (λ t. IsNear n (far (readable t slot)))
+      → IfOk r (λ x. D x → IfSome mid (λ t. length (left t slot) < MOST_BYTES)) → IfOk r (λ x. D x → IfSome new (λ t. left t slot ≡ []))
       → (IsErrOf r TooLong → IfSome old (λ t. IsLong (content t) (file (content t)))) → OnOk r (IfSome old (λ t. ¬ IsLong (content t) (file (content t))))
       → IfSome old (λ t. Follows (content t) (file (content t) ∷ []) D (one_slot name n) r)
-  all_follow None mid new slot n r at opened took short end too_long not_long = tt
-  all_follow (Some t) mid new slot n r at opened took short end too_long not_long =
+  all_follow None mid new slot n r at opened took no_further short end too_long not_long = tt
+  all_follow (Some t) mid new slot n r at opened took no_further short end too_long not_long =
       let taken : new ≡ Some (taken_from slot n (opened_at name t)) = took.told ∙ ap (option_map (taken_from slot n)) opened in
       let within : n ≤ length (left (opened_at name t) slot) = subst (λ (o : Option Told). IfSome o (λ u. n ≤ length (left u slot))) opened took.within in
-      follows t mid new slot n at taken opened within r short end too_long not_long
+      let there : IsNear n (far (readable (opened_at name t) slot)) = subst (λ (o : Option Told). IfSome o (λ u. IsNear n (far (readable u slot)))) opened no_further in
+      let here : IsNear n (far (content t name)) = subst (λ (b : List ℕ). IsNear n (far (take MOST_BYTES b))) (opened_left t slot name at) there in
+      follows t mid new slot n at taken opened within here r short end too_long not_long
 
   pub same_slot : (old : Option Told) (i slot : ℕ) → TellsSlots old i → slot ≡ i → IfSome old (λ t. length t.slots ≡ slot)
   same_slot None i slot tells is = tt
   same_slot (Some t) i slot tells is = tells ∙ sym is
 
   unfoldable pub Reads-file : (old mid new : Option Told) (i j k slot : ℕ) (r : Result T Stop) → TellsSlots old i → slot ≡ i → mid ≡ option_map (opened_at name) old → j ≡ i + 1
-      → (took : TookBytes mid new slot) → k ≡ j
-      → IfOk r (λ x. D x → IfSome mid (λ t. length (left t slot) < 2 ^ 40)) → IfOk r (λ x. D x → IfSome new (λ t. left t slot ≡ []))
-      → (IsErrOf r TooLong → IfSome old (λ t. IsLong (content t) (record { name = name; to_end = to_end (content t name) })))
-      → OnOk r (IfSome old (λ t. ¬ IsLong (content t) (record { name = name; to_end = to_end (content t name) })))
-      → Reads (λ c. record { name = name; to_end = to_end (c name) } ∷ []) D 1 (λ _. 1) old new i k r
+      → (took : TookTo far mid new slot) → k ≡ j
+      → IfOk r (λ x. D x → IfSome mid (λ t. length (left t slot) < MOST_BYTES)) → IfOk r (λ x. D x → IfSome new (λ t. left t slot ≡ []))
+      → (IsErrOf r TooLong → IfSome old (λ t. IsLong (content t) (record { name = name; far = far (content t name); to_end = to_end (content t name) })))
+      → OnOk r (IfSome old (λ t. ¬ IsLong (content t) (record { name = name; far = far (content t name); to_end = to_end (content t name) })))
+      → Reads (λ c. record { name = name; far = far (c name); to_end = to_end (c name) } ∷ []) D 1 (λ _. 1) old new i k r
   Reads-file old mid new i j k slot r tells is_slot opened one_more took same short end too_long not_long =
       let at : IfSome old (λ t. length t.slots ≡ slot) = same_slot old i slot tells is_slot in
       record {
@@ -169,5 +172,9 @@ module _ {T : Type 0} (name : List ℕ) (to_end : List ℕ → Bool) (D : T → 
         count = omega (arith, one_more, same);
         within = omega arith;
         full = one r;
-        follows = all_follow old mid new slot took.0 r at opened took.1 short end too_long not_long;
+        follows = all_follow old mid new slot took.0 r at opened took.1 took.2 short end too_long not_long;
       }
+
+-- what is read to its end is read no further than its bytes
+pub near : (taken far : ℕ) → taken ≤ far → IsNear taken far
+near taken far h = omega (arith, h)

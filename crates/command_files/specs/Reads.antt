@@ -3,10 +3,15 @@ use Rattle.std.specs.Prelude.{◌≡◌, ℕ, ◌+◌, ◌≤◌, List, ◌++◌
 use Rattle.std.specs.Option.{option_map}
 use Rattle.bolt_io.specs.Told.{Told}
 use Rattle.bolt_io.specs.declared.files.Slot.{Slot}
+use Rattle.text_lines.specs.Feed.{Advances, readable}
 use Rattle.batch_steps.specs.Files.{Content, Named}
 use Rattle.command_files.specs.declared.stop.Stop.{Stop}
 use Rattle.command_files.specs.declared.stop.Stop.TheVariants.{TooLong}
-use Rattle.command_files.specs.Files.{content, MeetsLong, AreFirst, AreRead}
+use Rattle.command_files.specs.Files.{content, IsNear, MeetsLong, AreFirst, AreRead}
+
+-- some bytes were taken of a slot, no more than a block past the place to which its bytes are read
+abbrev pub TookTo : (List ℕ → ℕ) → Option Told → Option Told → ℕ → Type 0
+TookTo far old new slot = (n : ℕ) × Advances old new slot n × IfSome old (λ t. IsNear n (far (readable t slot)))
 
 -- these slots more, and the files and the other slots as they were
 abbrev pub with_slots : List Slot → Told → Told

@@ -1,15 +1,16 @@
 // Opens files by name, and reads graphs.
+ghost use Rattle.bolt_io.specs.declared.whole.TheConstants.{MOST_BYTES};
 ghost use Rattle.std.specs.Prelude.{◌≡◌, ◌+◌, ◌<◌, ◌≤◌, ◌^◌, ◌∷◌, [], pos, length, IsOk, IfOk};
 ghost use Rattle.std.specs.Prelude.{OnOk, IfErr, OnErr, IfSome, IsErrOf};
 ghost use Rattle.std.specs.Option.{option_map};
 ghost use Rattle.bolt_base.specs.Graph.{IsBetween, IsGood};
 ghost use Rattle.bolt_io.specs.Told.{left, opened_at};
-ghost use Rattle.text_lines.specs.Feed.{TookBytes, readable};
+ghost use Rattle.text_lines.specs.Feed.{readable};
 ghost use Rattle.graph_text.specs.GraphText.{graph_of};
-ghost use Rattle.graph_text.specs.Refusals.{IsCutShort};
+ghost use Rattle.graph_text.specs.Refusals.{IsCutShort, graph_far};
 ghost use Rattle.command_files.specs.Files.{content};
 ghost use Rattle.batch_steps.specs.Graphs.{graph_file};
-ghost use Rattle.command_files.specs.Reads.{Reads};
+ghost use Rattle.command_files.specs.Reads.{TookTo, Reads};
 ghost use Rattle.command_files.specs.Stops.{BlamesShelf, IsOfReading};
 
 use crate::stop::{Stop, bad_or_stop};
@@ -49,9 +50,9 @@ fn load_slot<S: Shelf>(
     ensures early { IfOk result (λ r. OnErr r (IfSome (S.told shelf.old)
         (λ t. ¬ IsCutShort limits.now slot t))) }
     ensures short { IfOk result (λ r. OnOk r (IfSome (S.told shelf.old)
-        (λ t. length (left t slot) < 2 ^ 40))) }
+        (λ t. length (left t slot) < MOST_BYTES))) }
     ensures end { IfOk result (λ r. OnOk r (IfSome (S.told shelf.new) (λ t. left t slot ≡ []))) }
-    ensures took { TookBytes (S.told shelf.old) (S.told shelf.new) slot }
+    ensures took { TookTo (graph_far limits.now) (S.told shelf.old) (S.told shelf.new) slot }
     ensures opened { S.opened shelf.new ≡ S.opened shelf.old }
     ensures too_long { IsErrOf result Stop.TooLong
         → IfSome (S.told shelf.old) (IsCutShort limits.now slot) }

@@ -53,7 +53,7 @@ files_before words c = files_by (wrong_at words) (word_at words 2) c
 
 -- the files that a command reads, in order, each with how far it is read
 abbrev pub files_read : List (List ℕ) → Content → List Named
-files_read words c = files_before words c ++ stream_of (opening words c)
+files_read words c = files_before words c ++ stream_of (opening words c) c
 
 -- how many files words name
 abbrev pub named_by : Option ℕ → ℕ

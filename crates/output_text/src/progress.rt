@@ -36,12 +36,21 @@ impl Model for Progress {
 
     ghost coded = { coded_progress };
 
-    ghost view = { λ p. record { began = p.began; graph = p.ranked; accepted = p.accepted;
-        refused = p.refused } };
+    ghost view = { λ p. record {
+      began = p.began;
+      graph = p.ranked;
+      accepted = p.accepted;
+      refused = p.refused;
+    } };
 
     ghost invariant = { λ p.
-        IsUnderWay (record { began = p.began; graph = p.ranked; accepted = p.accepted; refused =
-        p.refused }) };
+        IsUnderWay (record {
+          began = p.began;
+          graph = p.ranked;
+          accepted = p.accepted;
+          refused =
+              p.refused;
+        }) };
 }
 
 impl Progress {

@@ -1,3 +1,4 @@
+use Rattle.bolt_io.specs.declared.whole.TheConstants.{MOST_BYTES}
 use Rattle.std.proofs.lemmas.Result.{err_from_is_err_and}
 use Rattle.std.proofs.Common.{◌≡◌, ◌∙◌, ◌-◌, ◌<◌, ◌≤◌, ◌^◌, [], ℕ, length, ap, subst, arith}
 use Rattle.std.specs.Prelude.{Option, Some, None, Result, Ok, Err, IfSome, OnOk}
@@ -7,11 +8,11 @@ use Rattle.text_lines.specs.Feed.{Advances}
 use Rattle.text_lines.proofs.FeedLemmas.{taken_all}
 use Rattle.graph_text.specs.BatchCode.{Reader}
 use Rattle.command_files.proofs.WriteSteps.{Appended-part, Appended-then}
-use Rattle.batch_run.proofs.BatchSteps.{Streamed-stopped, Streamed-end}
+use Rattle.batch_run.proofs.BatchSteps.{Streamed-stopped, Streamed-end, read_stop_as}
 use Rattle.batch_run.proofs.stream.run_slot.Goals as goal
 
 -- all that a slot had were few bytes
-few_left : {A E : Type 0} (r : Result A E) (a : Option Told) (slot n : ℕ) → n < 2 ^ 40 → IfSome a (λ t. length (left t slot) ≡ n) → OnOk r (IfSome a (λ t. length (left t slot) < 2 ^ 40))
+few_left : {A E : Type 0} (r : Result A E) (a : Option Told) (slot n : ℕ) → n < MOST_BYTES → IfSome a (λ t. length (left t slot) ≡ n) → OnOk r (IfSome a (λ t. length (left t slot) < MOST_BYTES))
 few_left (Err e) a slot n few all = tt
 few_left (Ok x) None slot n few all = tt
 few_left (Ok x) (Some t) slot n few all = omega (arith, all)
@@ -21,12 +22,12 @@ returns-in_err-put_batches-clause-streamed g c =
     let p = err_from_is_err_and c.from_residual.result c.from_residual.ensures.1 in
     rw (p.1, p.2)
     (Streamed-stopped g.B.BatchRun.steps (g.B.BatchRun.state c.args.run) (g.S.Shelf.told c.args.shelf.now) (g.S.Shelf.told c.put_batches.new.shelf) c.args.slot c.put_batches.new.reader.feed.taken c.new-reader.result.feed
-    (ap (λ (r : Reader). r.feed) c.new-reader.ensures) c.put_batches.ensures.advances _ _ _ c.put_batches.ensures.part)
+    (ap (λ (r : Reader). r.feed) c.new-reader.ensures) c.put_batches.ensures.advances c.put_batches.ensures.most _ _ _ c.put_batches.ensures.part (λ is. c.in_err-put_batches.ensures.kept_up (read_stop_as _ is)))
 
 pub returns-clause-streamed : goal.returns-clause-streamed
 returns-clause-streamed g c =
     Streamed-end g.B.BatchRun.steps (g.B.BatchRun.state c.args.run) (g.S.Shelf.told c.args.shelf.now) (g.S.Shelf.told c.put_batches.new.shelf) c.args.slot c.put_batches.new.reader.feed.taken c.new-reader.result.feed
-    (ap (λ (r : Reader). r.feed) c.new-reader.ensures) c.put_batches.ensures.advances _ _ _ _ _ c.in_ok-put_batches.ensures.all c.put_end.ensures.gives
+    (ap (λ (r : Reader). r.feed) c.new-reader.ensures) c.put_batches.ensures.advances c.put_batches.ensures.most _ _ _ _ _ c.in_ok-put_batches.ensures.all c.put_end.ensures.gives c.put_end.ensures.writing
 
 pub returns-clause-appended : goal.returns-clause-appended
 returns-clause-appended g c =
