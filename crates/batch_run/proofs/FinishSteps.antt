@@ -70,7 +70,7 @@ module _ (op : Content → Result Opening Reply) (before : Content → List Name
       → Conducts op before m p (world_of told i f a g) (world_of told i f b h) (Err e)
   Conducts-unopened e not_shelf not_long reply sink =
       let reads : Reads (λ c. before c ++ stream_of (op c) c) IsMade m p told told i i (let r : Result ℕ Stop = Err e in r) =
-          Reads-none (λ c. before c ++ stream_of (op c) c) IsMade m p told told i i e refl refl (λ wrong. not_long (cc)) in
+      Reads-none (λ c. before c ++ stream_of (op c) c) IsMade m p told told i i e refl refl (λ wrong. not_long (cc)) in
       record {
         reply = reply;
         reads = reads;
@@ -83,7 +83,7 @@ module _ (op : Content → Result Opening Reply) (before : Content → List Name
   pub Conducts-unread : (later : Option Told) (k n : ℕ) (e : Stop) → later ≡ told → k ≡ i → e ≢ TooLong → e ≢ SinkFailed → ShelfCause f n e → Conducts op before m p (world_of told i f a g) (world_of later k n a g) (Err e)
   Conducts-unread later k n e same count not_long not_sink shelf =
       let reads : Reads (λ c. before c ++ stream_of (op c) c) IsMade m p told later i k (let r : Result ℕ Stop = Err e in r) =
-          Reads-none (λ c. before c ++ stream_of (op c) c) IsMade m p told later i k e same count (λ wrong. not_long (cc)) in
+      Reads-none (λ c. before c ++ stream_of (op c) c) IsMade m p told later i k e same count (λ wrong. not_long (cc)) in
       record {
         reply = Replied-unwritten told a a (λ (c : Content). reply_of (op c) c) e refl;
         reads = reads;
@@ -98,7 +98,7 @@ module _ (op : Content → Result Opening Reply) (before : Content → List Name
       → Conducts op before m p (world_of told i f a g) (world_of told i f b h) r
   Conducts-refused refusal (Ok s) is none gives same own slots writing sink =
       let reads : Reads (λ c. before c ++ stream_of (op c) c) IsMade m p told told i i (let r : Result ℕ Stop = Ok s in r) =
-          Reads-nothing (λ c. before c ++ stream_of (op c) c) IsMade m p told told i i s refl refl (not_made s same) (slots s same) (no_files told is none) in
+      Reads-nothing (λ c. before c ++ stream_of (op c) c) IsMade m p told told i i s refl refl (not_made s same) (slots s same) (no_files told is none) in
       record {
         reply = Replied-known told a b (λ (c : Content). reply_of (op c) c) refusal (Ok s) (told_map (λ t. op (content t) ≡ Err refusal) (λ t. reply_of (op (content t)) (content t) ≡ refusal) told (λ t same. ap (λ (x : Result Opening Reply). reply_of x (content t)) same) is) gives;
         reads = reads;

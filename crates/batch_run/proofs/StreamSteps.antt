@@ -58,7 +58,7 @@ module _ {S : Type 0} (steps : Steps S) (s : S) (stream : List ℕ) where
       here : IsReadStop r → Leads (batch_texts steps s (ended_batches (take n (content t stream)))) a b
       here stopped =
           let there : Leads (batch_texts steps s (ended_batches (take n (readable (opened_at stream t) slot)))) a b =
-              subst (λ (o : Option Told). IfSome o (λ u. Leads (batch_texts steps s (ended_batches (take n (readable u slot)))) a b)) is (kept_up stopped) in
+          subst (λ (o : Option Told). IfSome o (λ u. Leads (batch_texts steps s (ended_batches (take n (readable u slot)))) a b)) is (kept_up stopped) in
           subst (λ (l : List ℕ). Leads (batch_texts steps s (ended_batches (take n l))) a b) (opened_readable t slot stream tells) there
 
   -- the stream was opened, and then its slot was run over
@@ -73,10 +73,10 @@ module _ {S : Type 0} (steps : Steps S) (s : S) (stream : List ℕ) where
       let tells_it : TellsSlots old.told slot = subst (TellsSlots old.told) (sym is_slot) tells in
       let took : TookTo (λ (b : List ℕ). length b) mid new.told slot = (went.taken, went.advances, told_map (λ t. went.taken ≤ length (readable t slot)) (λ t. IsNear went.taken (length (readable t slot))) mid (λ t h. near went.taken (length (readable t slot)) h) went.within) in
       let file : Reads (λ c. stream_file c stream ∷ []) IsMade 1 (λ _. 1) old.told new.told old.opened new.opened r =
-          Reads-file stream (λ (b : List ℕ). length b) (λ (b : List ℕ). true) IsMade old.told mid new.told old.opened j new.opened slot r tells is_slot opened one_more took same
-          (on_ok r IsMade (IfSome mid (λ t. length (left t slot) < MOST_BYTES)) short) (on_ok r IsMade (IfSome new.told (λ t. left t slot ≡ [])) end)
-          (λ is. opened_fact (λ t. MOST_BYTES ≤ length (left t slot)) (λ t. IsLong (content t) (stream_file (content t) stream)) old.told mid slot stream (long_stream stream slot) tells_it opened (too_long is))
-          (not_long r short) in
+      Reads-file stream (λ (b : List ℕ). length b) (λ (b : List ℕ). true) IsMade old.told mid new.told old.opened j new.opened slot r tells is_slot opened one_more took same
+      (on_ok r IsMade (IfSome mid (λ t. length (left t slot) < MOST_BYTES)) short) (on_ok r IsMade (IfSome new.told (λ t. left t slot ≡ [])) end)
+      (λ is. opened_fact (λ t. MOST_BYTES ≤ length (left t slot)) (λ t. IsLong (content t) (stream_file (content t) stream)) old.told mid slot stream (long_stream stream slot) tells_it opened (too_long is))
+      (not_long r short) in
       record {
         reply = Replied-file old.told mid slot old.written new.written r tells_it opened went.reply;
         reads = record { more = file.more; told = file.told; count = file.count; within = file.within; full = slots_are r (length file.more) made file.full; follows = file.follows };

@@ -50,6 +50,6 @@ module _ (words : List (List ℕ)) (is : wrong_at words ≡ None) where
     course-opened state steps read o opened graph =
         told_map (λ t. graph_of l (content t name) ≡ read) (λ t. course state steps (word_at words 3) o ≡ opening words (content t)) told
         (λ t same.
-            let same_words : graph_of rank_limits (content t (word_at words 2)) ≡ read = ap (λ (m : Limits). graph_of m (content t (word_at words 2))) (sym is_limits) ∙ ap (λ (w : List ℕ). graph_of l (content t w)) (sym is_name) ∙ same in
-            opened (word_at words 3) ∙ ap (graph_opening (word_at words 3)) (sym same_words) ∙ sym (opening-right words is (content t)))
+        let same_words : graph_of rank_limits (content t (word_at words 2)) ≡ read = ap (λ (m : Limits). graph_of m (content t (word_at words 2))) (sym is_limits) ∙ ap (λ (w : List ℕ). graph_of l (content t w)) (sym is_name) ∙ same in
+        opened (word_at words 3) ∙ ap (graph_opening (word_at words 3)) (sym same_words) ∙ sym (opening-right words is (content t)))
         graph

@@ -21,8 +21,8 @@ use bolt_io::{Shelf, Sink};
 use command_files::{Stop, load_graph};
 use command_runs::RankRun;
 use graph_text::BadLine;
-use rank_rows::limits;
 use output_text::{Ranked, graph_refused};
+use rank_rows::limits;
 use std::alloc::Global;
 
 // What a graph leaves, or its first bad line.

@@ -68,7 +68,7 @@ returns-in_err-batch-clause-kept_up g c =
     let p = err_from_is_err_and c.from_residual.result c.from_residual.ensures.1 in
     rw (p.1, p.2)
     (λ is. KeptUp-stop _ _ _ _ _ _ (g.S.Shelf.told c.batches.shelf) c.batches.invariant.kept_up c.next_batch.ensures.later
-        (texts_within-none g.B.BatchRun.steps (g.B.BatchRun.state c.batches.run) _ (g.S.Shelf.told c.batches.shelf) c.batches.reader.feed (c.in_err-batch.ensures.unended (read_stop_as c.in_err-batch.field-0.0 is))))
+    (texts_within-none g.B.BatchRun.steps (g.B.BatchRun.state c.batches.run) _ (g.S.Shelf.told c.batches.shelf) c.batches.reader.feed (c.in_err-batch.ensures.unended (read_stop_as c.in_err-batch.field-0.0 is))))
 
 pub returns-in_err-batch-clause-appended : goal.returns-in_err-batch-clause-appended
 returns-in_err-batch-clause-appended g c = (c.batches.invariant.so_far.text, c.batches.invariant.so_far.wrote)
