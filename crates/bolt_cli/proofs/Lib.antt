@@ -1,3 +1,3 @@
-pub mod FileSteps
-pub mod BatchSteps
-pub mod ReplySteps
+pub mod AnswerSteps
+pub mod WordSteps
+pub mod RankSteps

@@ -2,11 +2,7 @@
 #![tactic(auto)]
 
 mod command;
-mod files;
-mod put;
-mod run;
-mod stop;
-mod stream;
+mod rank;
 mod words;
 
 pub use command::{bolt, bolt_still};

@@ -16,7 +16,8 @@ fn cause_of_addition(
     edge: &Edge,
 ) -> Option<LineCause>
     requires { AreApart edges.now }
-    ensures { (attrs : List ℤ) → length attrs ≡ vertices → result ≡ one limits.now (graph_of attrs edges.now) (Add edge.now) }
+    ensures { (attrs : List ℤ) → length attrs ≡ vertices
+        → result ≡ one limits.now (graph_of attrs edges.now) (Add edge.now) }
 {
     if edge.src as usize >= vertices || edge.dst as usize >= vertices {
         return Some(LineCause::Vertex);
@@ -38,7 +39,8 @@ fn cause_of_addition(
 }
 
 fn cause_of_cut(vertices: usize, edges: &[Edge], src: u32, dst: u32) -> Option<LineCause>
-    ensures { (limits : Limits) (attrs : List ℤ) → length attrs ≡ vertices → result ≡ one limits (graph_of attrs edges.now) (Cut src dst) }
+    ensures { (limits : Limits) (attrs : List ℤ) → length attrs ≡ vertices
+        → result ≡ one limits (graph_of attrs edges.now) (Cut src dst) }
 {
     if src as usize >= vertices || dst as usize >= vertices {
         return Some(LineCause::Vertex);
@@ -50,7 +52,8 @@ fn cause_of_cut(vertices: usize, edges: &[Edge], src: u32, dst: u32) -> Option<L
 }
 
 fn cause_of_attr(limits: &Limits, vertices: usize, vertex: u32, attr: i64) -> Option<LineCause>
-    ensures { (g : Graph) → length g.attrs ≡ vertices → result ≡ one limits.now g (Attr vertex attr) }
+    ensures { (g : Graph) → length g.attrs ≡ vertices
+        → result ≡ one limits.now g (Attr vertex attr) }
 {
     let vertex = vertex as usize;
     if vertex > vertices || vertex == vertices && vertices >= limits.vertices as usize {
@@ -65,7 +68,8 @@ fn cause_of_attr(limits: &Limits, vertices: usize, vertex: u32, attr: i64) -> Op
 /// Why an edit is bad on a graph of so many vertices with these edges, or nothing where it is good.
 pub fn cause_of(limits: &Limits, vertices: usize, edges: &[Edge], edit: &Edit) -> Option<LineCause>
     requires { AreApart edges.now }
-    ensures { (attrs : List ℤ) → length attrs ≡ vertices → result ≡ one limits.now (graph_of attrs edges.now) edit.now }
+    ensures { (attrs : List ℤ) → length attrs ≡ vertices
+        → result ≡ one limits.now (graph_of attrs edges.now) edit.now }
 {
     match edit {
         Edit::Add(edge) => cause_of_addition(limits, vertices, edges, edge),

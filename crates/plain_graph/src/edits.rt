@@ -1,5 +1,6 @@
 // What edits make of a graph.
-ghost use Rattle.std.specs.Prelude.{◌≡◌, ◌≤◌, ◌<◌, ◌==◌, ◌&&◌, not, filter, slice_set, length, IfOk, IfErr, IfNone, OnOk};
+ghost use Rattle.std.specs.Prelude.{◌≡◌, ◌≤◌, ◌<◌, ◌==◌, ◌&&◌, not, filter, slice_set, length};
+ghost use Rattle.std.specs.Prelude.{IfOk, IfErr, IfNone, OnOk};
 ghost use Rattle.bolt_base.specs.Graph.{IsGood};
 ghost use Rattle.bolt_base.specs.Plain.{AreApart, graph_of};
 ghost use Rattle.bolt_base.specs.Edits.{one, edited};
@@ -10,7 +11,8 @@ use crate::lists::list_of;
 use bolt_base::{AttrList, Edge, EdgeList, Edit, GraphData, Limits, LineCause, Memory};
 use std::alloc::Global;
 
-/// The first bad edit of a batch: its place, counted from 0, and why it is bad on the graph that those before it leave.
+/// The first bad edit of a batch: its place, counted from 0, and why it is bad on the graph that
+/// those before it leave.
 #[derive(Clone, Copy, Debug, PartialEq, Eq)]
 pub struct BadEdit {
     pub index: usize,
@@ -31,7 +33,8 @@ fn with_attr(alloc: Global, attrs: &[i64], vertex: u32, attr: i64) -> Result<Att
 
 // The edges but the one between two vertices.
 fn without_edge(alloc: Global, edges: &[Edge], src: u32, dst: u32) -> Result<EdgeList, Memory>
-    ensures { IfOk result (λ list. list ≡ filter (λ e. not ((e.src == src) && (e.dst == dst))) edges.now) }
+    ensures { IfOk result (λ list. list
+        ≡ filter (λ e. not ((e.src == src) && (e.dst == dst))) edges.now) }
 {
     let mut list = EdgeList::new(alloc);
     for e in edges {
@@ -51,7 +54,8 @@ fn make(
     edit: &Edit,
 ) -> Result<Option<LineCause>, Memory>
     requires { AreApart edges.old }
-    ensures cause { IfOk result (λ cause. cause ≡ one limits.now (graph_of attrs.old edges.old) edit.now) }
+    ensures cause { IfOk result (λ cause. cause
+        ≡ one limits.now (graph_of attrs.old edges.old) edit.now) }
     ensures made { IfOk result (λ cause. IfNone cause
         (graph_of attrs.new edges.new ≡ edited (graph_of attrs.old edges.old) edit.now)) }
     ensures apart { OnOk result (AreApart edges.new) }
@@ -82,7 +86,8 @@ pub fn apply(
 ) -> Result<Result<GraphData, BadEdit>, Memory>
     ensures made { IfOk result (λ r. r ≡ made limits.now graph.now edits.now) }
     ensures within { IfOk result (λ r. IfErr r (λ bad. bad.index < length edits.now)) }
-    ensures good { IsGood limits.now graph.now → IfOk result (λ r. IfOk r (λ g. IsGood limits.now g)) }
+    ensures good { IsGood limits.now graph.now
+        → IfOk result (λ r. IfOk r (λ g. IsGood limits.now g)) }
 {
     let mut attrs = list_of(alloc, graph.attrs())?;
     let mut edges = list_of(alloc, graph.edges())?;

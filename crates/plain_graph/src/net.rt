@@ -9,7 +9,8 @@ use bolt_base::{Edge, GraphData};
 
 // How many edges the others lack or have with another weight.
 fn number_missing(edges: &[Edge], others: &[Edge]) -> usize
-    ensures { result ≡ count_by (λ e. not (same_weights (finite.get (graph_of [] others.now).weights (e.src, e.dst)) (Some e.weight))) edges.now }
+    ensures { result ≡ count_by (λ e. not (same_weights (finite.get
+        (graph_of [] others.now).weights (e.src, e.dst)) (Some e.weight))) edges.now }
 {
     let mut number = 0;
     for e in edges {

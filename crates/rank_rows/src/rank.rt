@@ -2,7 +2,9 @@
 ghost use Rattle.std.specs.Prelude.{◌≡◌, ◌≤◌, ◌≤ℤ◌, pos, map, length, All, IfOk};
 ghost use Rattle.std.specs.List.{range_with_len};
 ghost use Rattle.bolt_base.specs.Graph.{IsGood, vertices};
-ghost use Rattle.rank_rows.specs.Rank.{rank_limits, IsValue, degrees as degrees_of, aggregate, value as value_of, next as next_of, answer as answer_of, total as total_of};
+ghost use Rattle.rank_rows.specs.Rank.{rank_limits, IsValue, degrees as degrees_of, aggregate};
+ghost use Rattle.rank_rows.specs.Rank.{value as value_of, next as next_of, answer as answer_of};
+ghost use Rattle.rank_rows.specs.Rank.{total as total_of};
 
 use bolt_base::{GraphData, Memory};
 use std::alloc::Global;
@@ -38,7 +40,8 @@ fn aggregates(
     requires degrees { degrees.now ≡ degrees_of graph.now }
     requires whole { length row.now ≡ vertices graph.now }
     requires values { All IsValue row.now }
-    ensures { IfOk result (λ sums. sums.items ≡ map (aggregate graph.now row.now) (range_with_len 0 (vertices graph.now))) }
+    ensures { IfOk result (λ sums. sums.items
+        ≡ map (aggregate graph.now row.now) (range_with_len 0 (vertices graph.now))) }
 {
     let mut sums = vec![in alloc; 0i64; graph.attrs().len()]?;
     let edges = graph.edges();

@@ -4,8 +4,8 @@ ghost use Rattle.rank_rows.specs.Rank.{rank_limits};
 
 use bolt_base::Limits;
 
-/// The limits of the graphs that are ranked: a million vertices, a million edges out of or into a vertex, and eight million
-/// edges; weights and attributes from -1,000,000 to 1,000,000.
+/// The limits of the graphs that are ranked: a million vertices, a million edges out of or into a
+/// vertex, and eight million edges; weights and attributes from -1,000,000 to 1,000,000.
 pub fn limits() -> Limits
     ensures { result ≡ rank_limits }
 {

@@ -1,0 +1,3 @@
+pub mod BatchSteps
+pub mod StreamSteps
+pub mod FinishSteps

@@ -1,0 +1,5 @@
+pub mod Steps
+pub mod Files
+pub mod Course
+pub mod Graphs
+pub mod Ended

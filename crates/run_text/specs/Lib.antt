@@ -1,5 +1,0 @@
-pub mod Words
-pub mod Lines
-pub mod Run
-pub mod Still
-pub mod Ranked
