@@ -13,7 +13,10 @@ fn texts_are_programs(rt: HostRuntime) -> Result<(), Fail> {
         let printed = print(alloc, &program)?;
         assert_eq!(rt; printed.as_slice(), text);
         let accepted = check(alloc, program)?;
-        assert_eq!(rt; accepted.program().entries().name.as_slice(), name.as_bytes());
+        assert_eq!(rt;
+            accepted.program().entries().name.as_slice(),
+            name.as_bytes()
+        );
     }
     assert!(rt; shipped("ranks").is_none());
     assert!(rt; shipped("").is_none());
