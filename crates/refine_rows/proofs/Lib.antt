@@ -1,0 +1,6 @@
+mod MergeLemmas
+mod PickLemmas
+mod ReadLemmas
+mod PutLemmas
+mod MentionLemmas
+mod AgainLemmas

@@ -1,0 +1,8 @@
+use Rattle.refine_rows.proofs.PutLemmas.{begins, goes_on}
+use Rattle.refine_rows.proofs.laws.refinement_goes_on.Goals as goal
+
+pub returns-clause-begins : goal.returns-clause-begins
+returns-clause-begins c = begins
+
+pub returns-clause-goes_on : goal.returns-clause-goes_on
+returns-clause-goes_on c = goes_on

@@ -1,0 +1,69 @@
+use Rattle.std.proofs.Common.{rules, ◌≡◌, ◌<◌, ◌+◌, ◌≤◌, ℕ, ℤ, length, FitsSigned, w64, sym, ap, ◌∙◌, subst, arith}
+use Rattle.std.proofs.lemmas.Int.{to_z-of_z}
+use Rattle.bolt_base.specs.Graph.{Graph, vertices}
+use Rattle.bolt_base.specs.Keep.{Entry}
+use Rattle.vertex_expr.specs.declared.program.ProgramEntries.{ProgramEntries}
+use Rattle.run_model.specs.Program.{lanes, number}
+use Rattle.run_model.specs.Rows.{at, aggr}
+use Rattle.run_model.proofs.ByLane.{IsSoFar, one_more}
+use Rattle.refine_rows.proofs.ReadLemmas.{copied_agg, had_new, had_old, old_entry, same_vertices}
+use Rattle.refine_rows.proofs.values.old_agg.Goals as goal
+
+pub returns-then-vertices_le-v : goal.returns-then-vertices_le-v
+returns-then-vertices_le-v g c =
+    let p : ProgramEntries = c.args.program.now in
+    let was : Graph = g.O.OldGraph.graph in
+    let count = same_vertices p was c.args.history.now c.requires.stands in
+    let some = c.vertices.ensures.count in
+    c.empties.ensures.totals
+    ∙ sym (had_new p was c.args.history.now c.requires.stands c.args.i c.args.v (omega arith))
+
+pub agg-requires : goal.agg-requires
+agg-requires g c =
+    let p : ProgramEntries = c.args.program.now in
+    let some = c.vertices.ensures.count in
+    let past = c.if-vertices_le-v.false in
+    let wide = c.requires.stands.lanes in
+    let low = c.requires.iteration in
+    let len : c.len-lanes.result ≡ lanes p = c.len-lanes.ensures
+    ∙ ap (λ (x : ProgramEntries). length x.ranges) c.entries.ensures.entries in
+    let test = c.loop-lane-test.true in
+    record { iteration = low; vertex = omega arith; lane = omega arith }
+
+pub loop-lane-preserved : goal.loop-lane-preserved
+loop-lane-preserved g c =
+    let p : ProgramEntries = c.args.program.now in
+    let was : Graph = g.O.OldGraph.graph in
+    let f : ℕ → ℤ = number (at (aggr p was c.args.i) c.args.v) in
+    let lane : ℕ = c.loop-lane.lane in
+    let count = same_vertices p was c.args.history.now c.requires.stands in
+    let some = c.vertices.ensures.count in
+    let past = c.if-vertices_le-v.false in
+    let there : c.args.v < vertices was = omega arith in
+    let len : c.len-lanes.result ≡ lanes p = c.len-lanes.ensures
+    ∙ ap (λ (x : ProgramEntries). length x.ranges) c.entries.ensures.entries in
+    let small : lane < lanes p = let test = c.loop-lane-test.true in omega arith in
+    let is : c.agg.result ≡ f lane = c.agg.ensures
+    ∙ ap (λ (e : Entry). number e.0 lane)
+    (old_entry p was c.args.history.now c.requires.stands c.args.i c.args.v c.requires.iteration there) in
+    let fits : FitsSigned w64 c.agg.result = search rules in
+    subst (IsSoFar f (lanes p) (lane + 1)) (sym c.set.ensures)
+    (one_more f (lanes p) lane c.loop-lane.agg _ c.loop-lane.invariant small
+    (to_z-of_z w64 c.agg.result fits ∙ is))
+
+pub returns : goal.returns
+returns g c =
+    let p : ProgramEntries = c.args.program.now in
+    let was : Graph = g.O.OldGraph.graph in
+    let count = same_vertices p was c.args.history.now c.requires.stands in
+    let some = c.vertices.ensures.count in
+    let before = c.if-vertices_le-v.false in
+    let there : c.args.v < vertices was = omega arith in
+    let len : c.len-lanes.result ≡ lanes p = c.len-lanes.ensures
+    ∙ ap (λ (x : ProgramEntries). length x.ranges) c.entries.ensures.entries in
+    let past = c.loop-lane-test.false in
+    copied_agg p was c.args.i c.args.v c.loop-lane.lane c.loop-lane.agg
+    there c.loop-lane.invariant (omega arith)
+    ∙ sym (had_old p was c.args.history.now c.requires.stands c.args.i c.args.v there
+    ∙ ap (λ (e : Entry). e.0)
+    (old_entry p was c.args.history.now c.requires.stands c.args.i c.args.v c.requires.iteration there))
