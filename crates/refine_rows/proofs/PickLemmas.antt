@@ -1,5 +1,5 @@
 -- Tests over a range of vertices.
-use Rattle.std.proofs.Common.{◌≡◌, ℕ, zero, suc, ◌+◌, ◌-◌, ◌<◌, ◌≤◌, Bool, true, false, not, ◌||◌, ◌&&◌, cond, eqb, ltb, List, [], ◌∷◌, ◌++◌, length, get_or, map, filter, take, inl, inr, refl, sym, ap, ◌∙◌, subst, arith}
+use Rattle.std.proofs.Common.{◌≡◌, ℕ, zero, suc, ◌+◌, ◌-◌, ◌<◌, ◌≤◌, Bool, true, false, not, ◌||◌, ◌&&◌, cond, eqb, ltb, List, [], ◌∷◌, ◌++◌, length, get_or, map, filter, take, inl, inr, refl, sym, ap, ◌∙◌, subst, arith, length-append}
 use Rattle.std.specs.List.{range_with_len, Contains}
 use Rattle.std.specs.List.Sorted.{IsSorted, IsStrictlyIncreasing}
 use Rattle.std.specs.Ordering.{is_lt, nat_cmp}
@@ -45,6 +45,16 @@ range_split (suc a) m b =
     ap (range_with_len m) (let e : suc a + b ≡ suc (a + b) = omega arith in e)
     ∙ ap (λ vs. m ∷ vs) (range_split a (m + 1) b
     ∙ ap (λ k. range_with_len (m + 1) a ++ range_with_len k b) (let e : m + 1 + a ≡ m + suc a = omega arith in e))
+
+pub range_next : (a v : ℕ) → a ≤ v
+    → range_with_len a (v + 1 - a) ≡ range_with_len a (v - a) ++ v ∷ []
+range_next a v low =
+    ap (range_with_len a) (let e : v + 1 - a ≡ (v - a) + 1 = omega arith in e)
+    ∙ range_split (v - a) a 1
+    ∙ ap (λ m. range_with_len a (v - a) ++ m ∷ []) (let e : a + (v - a) ≡ v = omega arith in e)
+
+pub length_with_one : (xs : List ℕ) (y : ℕ) → length (xs ++ y ∷ []) ≡ length xs + 1
+length_with_one xs y = let l = length-append xs (y ∷ []) in omega arith
 
 where_split : (k n : ℕ) (p : ℕ → Bool) → k ≤ n
     → vertices_where n p ≡ vertices_where k p ++ filter p (range_with_len k (n - k))
@@ -178,11 +188,22 @@ picked_more f p xs k d l =
     ∙ ap (filter p) (map-append f (take k xs) (get_or xs k d ∷ []))
     ∙ filter-append p (map f (take k xs)) (f (get_or xs k d) ∷ [])
 
-pub picked_next : (p : ℕ → Bool) (xs : List ℕ) (k d : ℕ) → k < length xs
-    → filter p (take (k + 1) xs)
-    ≡ filter p (take k xs) ++ cond (p (get_or xs k d)) (get_or xs k d ∷ []) []
-picked_next p xs k d l =
-    ap (filter p) (take_more xs k d l) ∙ filter-append p (take k xs) (get_or xs k d ∷ [])
+-- the next one passes, or not
+module _ {X : Type 0} (f : X → ℕ) (p : ℕ → Bool) (xs : List X) (k : ℕ) (d : X) (l : k < length xs)
+    (us : List ℕ) (so_far : us ≡ filter p (map f (take k xs))) where
+  abbrev next : ℕ
+  next = f (get_or xs k d)
+
+  pub picked_in : (vs : List ℕ) → p next ≡ true → vs ≡ us ++ next ∷ []
+      → vs ≡ filter p (map f (take (k + 1) xs))
+  picked_in vs t e = e ∙ ap (λ ys. ys ++ next ∷ []) so_far
+      ∙ ap (λ b. filter p (map f (take k xs)) ++ cond b (next ∷ []) []) (sym t)
+      ∙ sym (picked_more f p xs k d l)
+
+  pub picked_out : p next ≡ false → us ≡ filter p (map f (take (k + 1) xs))
+  picked_out t = so_far ∙ sym (append-nil (filter p (map f (take k xs))))
+      ∙ ap (λ b. filter p (map f (take k xs)) ++ cond b (next ∷ []) []) (sym t)
+      ∙ sym (picked_more f p xs k d l)
 
 -- where all that pass one test pass another
 pub filter_within : {X : Type 0} (p q : X → Bool) (xs : List X)

@@ -5,7 +5,7 @@ use Rattle.std.specs.List.{Contains, range_with_len}
 use Rattle.std.specs.List.Sorted.{IsSorted}
 use Rattle.std.specs.Map.{lookup}
 use Rattle.std.specs.Ordering.{nat_cmp}
-use Rattle.std.proofs.lemmas.Bool.{cases_eq, cases_Bool}
+use Rattle.std.proofs.lemmas.Bool.{cases_eq, cases_Bool, false≢true}
 use Rattle.std.proofs.lemmas.Cmp.{nat_eq_equiv}
 use Rattle.std.proofs.lemmas.List.{get_or-set_same, get_or-set_other, length-replicate, map-append, take_all, take_more}
 use Rattle.std.proofs.lemmas.List.FromFn.{get_or-map-range_with_len, length-map-range_with_len}
@@ -40,7 +40,7 @@ found_put : (round : Round) (v : ℕ) → Contains (map (λ put. put.0) round) v
     → lookup (λ u. eqb v u) round ≡ None → ⊥
 found_put round v c none =
     let some : IsSome (lookup (λ u. eqb v u) round) = IsSome-lookup_from_Contains nat_eq_equiv v round c in
-    subst IsSome none some
+    false≢true (subst IsSome none some)
 
 -- ---- one more put
 module _ (p : ProgramEntries) (g h : Graph) (history : HistoryState) (t : PutTable) (i v : ℕ)
@@ -65,7 +65,7 @@ module _ (p : ProgramEntries) (g h : Graph) (history : HistoryState) (t : PutTab
     | None ↦ λ _. refl
     | Some e ↦ λ is. absurd (not_before (vertices h) (is_again p g h i) so_many v place_within vertex_is
         (subst (λ vs. Contains vs v) within.first
-        (Contains-keys_from_lookup exact_unsigned_eq v (round_at t.puts i) (subst IsSome (sym is) tt))))
+        (Contains-keys_from_lookup exact_unsigned_eq v (round_at t.puts i) (subst IsSome (sym is) refl))))
   ] refl
 
   module _ (e : Entry) (low : i ≤ t.cut) (is_new_entry : e ≡ entry p h i v)
@@ -122,12 +122,19 @@ module _ (p : ProgramEntries) (g h : Graph) (history : HistoryState) (t : PutTab
     }
 
     -- so after a put that is made
-    pub within_by_put : (more : PutTable) → more ≡ grown
+    within_by_put : (more : PutTable) → more ≡ grown
         → IsRefinedWithin p g h history more i × (vertices_put more i ≡ vertices_put t i ++ v ∷ [])
     within_by_put more is = (
       subst (λ x. IsRefinedWithin p g h history x i) (sym is) within_more,
       ap (λ (x : PutTable). vertices_put x i) is ∙ one_put,
     )
+
+  pub put_made : (e : Entry) → i ≤ t.cut → e ≡ entry p h i v → (more : PutTable)
+      → more ≡ record t { puts = with_put t.puts i v e } → IsPutMore t.puts i v e more.puts
+      → IsRefinedWithin p g h history more i × (vertices_put more i ≡ vertices_put t i ++ v ∷ [])
+  put_made e low is_new_entry more is found =
+      within_by_put e low is_new_entry
+      (subst (λ puts. IsPutMore t.puts i v e puts) (ap (λ (x : PutTable). x.puts) is) found) more is
 
 -- ---- entries that are evaluated again
 module _ (p : ProgramEntries) (g h : Graph) (over : AreOver p g h) where
@@ -170,10 +177,10 @@ module _ (p : ProgramEntries) (g h : Graph) (history : HistoryState) (t : PutTab
           done = refinement_grows p g h (put_at t.puts) i w.done (λ v there. record {
             right = λ e is. w.right v e there is;
             rest = λ is. elim (cases_Bool (is_again p g h i v)) [
-              | inl yes ↦ absurd (found_put (round_at t.puts i) v
+              | inl is_so ↦ absurd (found_put (round_at t.puts i) v
                   (subst (λ vs. Contains vs v) (sym listed)
-                  (contains_where (vertices h) (is_again p g h i) v there yes)) is)
-              | inr no ↦ no
+                  (contains_where (vertices h) (is_again p g h i) v there is_so)) is)
+              | inr other ↦ other
             ];
           });
           listed = λ j less. elim (cases_eq j i) [
@@ -188,7 +195,10 @@ module _ (p : ProgramEntries) (g h : Graph) (history : HistoryState) (t : PutTab
         none = none;
       }
 
-  no_round : (m j : ℕ) → get_or (replicate m []) j [] ≡ ([] {A = ℕ × Entry})
+  abbrev no_puts : Round
+  no_puts = []
+
+  no_round : (m j : ℕ) → get_or (replicate m no_puts) j no_puts ≡ no_puts
   no_round zero j = refl
   no_round (suc m) zero = refl
   no_round (suc m) (suc j) = no_round m j
@@ -216,7 +226,7 @@ module _ (p : ProgramEntries) (g h : Graph) (history : HistoryState) (t : PutTab
               };
               vertices = ap (λ (x : PutTable). x.vertices) can.empty;
               rounds = ap (λ (x : PutTable). length x.puts) can.empty
-                  ∙ length-replicate (history.cut + 1) ([] {A = ℕ × Entry})
+                  ∙ length-replicate (history.cut + 1) no_puts
                   ∙ ap (λ (x : PutTable). x.cut + 1) (sym can.empty);
             };
             done = λ j u less there. absurd (omega arith);

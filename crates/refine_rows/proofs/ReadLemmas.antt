@@ -11,7 +11,7 @@ use Rattle.bolt_base.specs.RowTable.{entry_at}
 use Rattle.vertex_expr.specs.declared.program.ProgramEntries.{ProgramEntries}
 use Rattle.range_check.specs.Gathered.{empty_of}
 use Rattle.run_model.specs.Program.{lanes, by_lane, number}
-use Rattle.run_model.specs.Refined.{is_again, laid, IsRefined}
+use Rattle.run_model.specs.Refined.{is_again, laid, laid_values, row_values, IsRefined}
 use Rattle.run_model.specs.Rows.{Lists, at, aggr, row, entry, entries, rows_to}
 use Rattle.run_model.specs.Steps.{is_target, value_changed, attr_changed, step}
 use Rattle.run_model.proofs.ByLane.{IsSoFar, finished}
@@ -107,7 +107,7 @@ module _ (p : ProgramEntries) (g h : Graph) (history : HistoryState) (t : PutTab
   new_put past = some (put_at t.puts i v) (λ none. refined.rest none) 
     where
       some : (o : Option Entry) → (o ≡ None → is_again p g h i v ≡ false) → IsSome o
-      some (Some e) r = tt
+      some (Some e) r = refl
       some None r = absurd (let a = r refl in let b = new_again p g h i v past in cc)
 
   pub laid_entry : i ≤ history.cut → v < vertices h
@@ -115,3 +115,47 @@ module _ (p : ProgramEntries) (g h : Graph) (history : HistoryState) (t : PutTab
   laid_entry low there =
       ap (λ rows. laid_at t.puts rows i v) is.stands.rows
       ∙ laid_is p g h over.old (put_at t.puts) history.cut i v low there refined
+
+-- ---- rows
+module _ (p : ProgramEntries) (g : Graph) (history : HistoryState) (stands : StandsFor p g history)
+    (i : ℕ) (low : i ≤ history.cut) where
+  pub old_row : row_values (vertices_of history) (rows_of history) i ≡ row p g i
+  old_row =
+      let w = values_whole p g i in
+      let count = same_vertices p g history stands in
+      sym (fill_by_all (λ v. (entry_at (rows_of history) i v).1) (row p g i) (vertices_of history) []
+      (w.each_vertex ∙ sym count)
+      (λ v there. sym (ap (λ (e : Entry). e.1) (old_entry p g history stands i v low (omega arith)))))
+
+  pub old_long : (v : ℕ) → v < vertices_of history → length (entry_at (rows_of history) i v).1 ≡ lanes p
+  old_long v there =
+      let count = same_vertices p g history stands in
+      let below : v < vertices g = omega arith in
+      ap (λ (e : Entry). length e.1) (old_entry p g history stands i v low below)
+      ∙ value_long p g i v below
+
+module _ (p : ProgramEntries) (g h : Graph) (history : HistoryState) (t : PutTable)
+    (over : AreOver p g h) (is : IsLaidOver p g h history t) (i : ℕ) (low : i ≤ history.cut)
+    (refined : (v : ℕ) → v < vertices h → IsRefined p g h (put_at t.puts) i v) where
+  pub new_row : laid_values t.vertices (put_at t.puts) (rows_of history) i ≡ row p h i
+  new_row =
+      let w = values_whole p h i in
+      let count = is.vertices in
+      sym (fill_by_all (λ v. (laid_at t.puts (rows_of history) i v).1) (row p h i) t.vertices []
+      (w.each_vertex ∙ sym count)
+      (λ v there. let below : v < vertices h = omega arith in
+      sym (ap (λ (e : Entry). e.1) (laid_entry p g h history t over is i v (refined v below) low below))))
+
+  pub new_long : (v : ℕ) → v < t.vertices
+      → length (laid_at t.puts (rows_of history) i v).1 ≡ lanes p
+  new_long v there =
+      let count = is.vertices in
+      let below : v < vertices h = omega arith in
+      ap (λ (e : Entry). length e.1) (laid_entry p g h history t over is i v (refined v below) low below)
+      ∙ value_long p h i v below
+
+  pub news_put : (v : ℕ) → t.old_vertices ≤ v → v < t.vertices → IsSome (put_at t.puts i v)
+  news_put v past there =
+      let count = is.vertices in
+      let olds : t.old_vertices ≡ vertices g = is.belongs.vertices ∙ same_vertices p g history is.stands in
+      new_put p g h history t over is i v (refined v (omega arith)) (omega arith)

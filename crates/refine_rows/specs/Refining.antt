@@ -23,9 +23,9 @@ pub record CanRefine (p : ProgramEntries) (g h : Graph) (change : Change) (histo
   pub net : IsChange g h change
   pub some : 1 ≤ history.cut
   pub cut : history.cut ≤ p.rounds
+  pub empty : overlay ≡ no_puts_for (vertices g) (vertices h) (lanes p) history.cut
   pub lanes : history.lanes ≡ lanes p
   pub rows : rows_of history ≡ rows_to p g history.cut
-  pub empty : overlay ≡ no_puts_for (vertices g) (vertices h) (lanes p) history.cut
 
 -- they are refined: the overlay, laid over the history, makes the new rows, and the vertices that
 -- were put at an iteration rise

@@ -8,8 +8,8 @@ use Rattle.run_model.specs.Steps.{step, value_changed}
 use Rattle.refine_rows.specs.Picked.{vertices_where}
 
 -- the old vertices whose value at the iteration before is another one than it was, rising
-abbrev pub changed : ProgramEntries → Graph → Graph → ℕ → List ℕ
-changed p g h i = vertices_where (vertices g) (value_changed (step p g h i))
+abbrev pub changed_values : ProgramEntries → Graph → Graph → ℕ → List ℕ
+changed_values p g h i = vertices_where (vertices g) (value_changed (step p g h i))
 
 -- the aggregate of a vertex in the old rows up to a cut: a new one had none
 abbrev pub had_before : ProgramEntries → Graph → ℕ → ℕ → ℕ → List ℤ

@@ -1,9 +1,11 @@
 // The vertices that are evaluated again at an iteration.
 ghost use Rattle.std.specs.Prelude.{◌≡◌, ◌≤◌, IfOk};
-ghost use Rattle.run_model.specs.Steps.{step, targets};
+ghost use Rattle.run_model.specs.Steps.{is_target, step};
+ghost use Rattle.bolt_base.specs.Graph.{vertices};
 ghost use Rattle.refine_rows.specs.Over.{IsChangeOver};
+ghost use Rattle.refine_rows.specs.Picked.{vertices_where};
 ghost use Rattle.refine_rows.specs.Progress.{again};
-ghost use Rattle.refine_rows.specs.Seen.{changed};
+ghost use Rattle.refine_rows.specs.Seen.{changed_values};
 
 use crate::lists::{attr_vertices, new_vertices};
 use crate::merging::merge;
@@ -43,9 +45,9 @@ pub fn applied_vertices<O: OldGraph, A: Adjacency>(
 ) -> Result<Vec<u32>, Memory>
     requires change { IsChangeOver program.now O.graph (A.plain graph.now) change.now }
     requires some { 1 ≤ i }
-    requires targets { targets.now
-        ≡ targets program.now (step program.now O.graph (A.plain graph.now) i) }
-    requires changed { changed.now ≡ changed program.now O.graph (A.plain graph.now) i }
+    requires targets { targets.now ≡ vertices_where (vertices (A.plain graph.now))
+        (is_target program.now (step program.now O.graph (A.plain graph.now) i)) }
+    requires changed { changed.now ≡ changed_values program.now O.graph (A.plain graph.now) i }
     ensures { IfOk result (λ vs. vs.items ≡ again program.now O.graph (A.plain graph.now) i) }
 {
     let begun = begun_vertices::<O, A>(alloc, program, graph, change)?;

@@ -1,12 +1,14 @@
 // The vertices that contribute otherwise than before at an iteration.
-ghost use Rattle.std.specs.Prelude.{◌≡◌, ◌≤◌, IfOk};
-ghost use Rattle.bolt_base.specs.Graph.{vertices};
+ghost use Rattle.std.specs.Prelude.{◌≡◌, ◌+◌, ◌-◌, ◌<◌, ◌≤◌, ◌&&◌, IfOk};
 ghost use Rattle.bolt_base.specs.Differs.{attr_changed, degree_changed};
-ghost use Rattle.run_model.specs.Steps.{dirty, step};
+ghost use Rattle.bolt_base.specs.Graph.{outdeg, vertices};
+ghost use Rattle.run_model.specs.Refined.{IsRefined};
+ghost use Rattle.run_model.specs.Steps.{dirty, reads_attr, reads_outdeg, step, value_changed};
+ghost use Rattle.agg_history.specs.Puts.{put_at};
 ghost use Rattle.refine_rows.specs.Over.{AreOver, IsChangeOver};
 ghost use Rattle.refine_rows.specs.Picked.{old_only, vertices_where};
 ghost use Rattle.refine_rows.specs.Progress.{IsLaidOver, IsRefinedTo};
-ghost use Rattle.refine_rows.specs.Seen.{changed};
+ghost use Rattle.refine_rows.specs.Seen.{changed_values};
 
 use crate::lists::attr_vertices;
 use crate::merging::merge;
@@ -31,7 +33,7 @@ fn has_other_value<O: OldGraph, A: Adjacency>(
     requires over { AreOver program.now O.graph (A.plain graph.now) }
     requires laid { IsLaidOver program.now O.graph (A.plain graph.now) history.now overlay.now }
     requires some { 1 ≤ i }
-    requires low { i ≤ history.now.cut }
+    requires low { i ≤ history.now.cut + 1 }
     requires vertex { u < vertices (A.plain graph.now) }
     requires refined { IsRefined program.now O.graph (A.plain graph.now)
         (put_at overlay.now.puts) (i - 1) u }
@@ -60,8 +62,8 @@ pub fn changed_vertices<O: OldGraph, A: Adjacency>(
     requires refined { IsRefinedTo program.now O.graph (A.plain graph.now) history.now
         overlay.now i }
     requires some { 1 ≤ i }
-    requires low { i ≤ history.now.cut }
-    ensures { IfOk result (λ us. us.items ≡ changed program.now O.graph (A.plain graph.now) i) }
+    requires low { i ≤ history.now.cut + 1 }
+    ensures { IfOk result (λ us. us.items ≡ changed_values program.now O.graph (A.plain graph.now) i) }
 {
     let mut us = Vec::new(alloc);
     for &u in overlay.vertices_at(i - 1) {
@@ -141,7 +143,7 @@ pub fn dirty_vertices<O: OldGraph, A: Adjacency>(
     changed: &[u32],
 ) -> Result<Vec<u32>, Memory>
     requires change { IsChangeOver program.now O.graph (A.plain graph.now) change.now }
-    requires changed { changed.now ≡ changed program.now O.graph (A.plain graph.now) i }
+    requires changed { changed.now ≡ changed_values program.now O.graph (A.plain graph.now) i }
     ensures { IfOk result (λ us. us.items
         ≡ dirty program.now (step program.now O.graph (A.plain graph.now) i)) }
 {

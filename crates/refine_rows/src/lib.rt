@@ -11,6 +11,8 @@ mod merging;
 mod old_graph;
 mod put;
 mod reads;
+mod row_values;
+mod rows;
 mod values;
 
 pub use applied::{applied_vertices, begun_vertices};
@@ -20,4 +22,5 @@ pub use laws::{refinement_ends, refinement_goes_on};
 pub use merging::merge;
 pub use old_graph::OldGraph;
 pub use put::put_entry;
+pub use rows::{LaidRow, OldRow};
 pub use values::{laid_value, old_agg, old_value};

@@ -16,9 +16,9 @@ returns g c =
     let i : ℕ = c.args.i in
     let changed = c.requires.changed
     ∙ where_old was (vertices now) c.requires.change.over.more (value_changed (step p was now i)) in
-    let moved = c.in_ok-moved.ensures (vertices now) (is_target p (step p was now i))
+    let moved = c.in_ok-moved.ensures.all (vertices now) (is_target p (step p was now i))
     (old_only was (value_changed (step p was now i))) c.requires.targets changed in
-    c.in_ok-applied.ensures (vertices now)
+    c.in_ok-applied.ensures.all (vertices now)
     (λ v. is_target p (step p was now i) v || old_only was (value_changed (step p was now i)) v)
     (is_again p was now 0)
     (c.deref.ensures.value ∙ moved) (c.deref-2.ensures.value ∙ c.in_ok-begun.ensures)

@@ -29,6 +29,6 @@ returns g c =
     ∙ (λ j. range_with_len (c.requires.net.is_old_vertices j)
     (c.vertices.ensures j - c.requires.net.is_old_vertices j))
     ∙ where_new was (vertices now) more in
-    c.in_ok-begun.ensures (vertices now) (old_only was (attr_changed was now)) (is_new was)
+    c.in_ok-begun.ensures.all (vertices now) (old_only was (attr_changed was now)) (is_new was)
     (c.deref.ensures.value ∙ attrs) (c.deref-2.ensures.value ∙ new)
     ∙ begun_where p was now

@@ -4,8 +4,8 @@ use Rattle.bolt_base.specs.Graph.{Graph, outdeg, vertices}
 use Rattle.run_model.proofs.Still.{is_le, not_new}
 use Rattle.refine_rows.proofs.dirty.has_other_degree.Goals as goal
 
-pub returns-then-old_vertices_le-vertex : goal.returns-then-old_vertices_le-vertex
-returns-then-old_vertices_le-vertex g c =
+pub returns-then-old_vertices-touched : goal.returns-then-old_vertices-touched
+returns-then-old_vertices-touched g c =
     let was : Graph = g.O.OldGraph.graph in
     let now : Graph = g.A.Adjacency.plain c.args.graph.now in
     let olds = c.requires.old in

@@ -11,8 +11,8 @@ use Rattle.run_model.proofs.Still.{is_le, not_new}
 use Rattle.refine_rows.proofs.ReadLemmas.{same_vertices}
 use Rattle.refine_rows.proofs.dirty.has_other_value.Goals as goal
 
-pub returns-then-vertices_le-u : goal.returns-then-vertices_le-u
-returns-then-vertices_le-u g c =
+pub returns-then-vertices-u : goal.returns-then-vertices-u
+returns-then-vertices-u g c =
     let p : ProgramEntries = c.args.program.now in
     let was : Graph = g.O.OldGraph.graph in
     let now : Graph = g.A.Adjacency.plain c.args.graph.now in

@@ -6,7 +6,7 @@ use Rattle.vertex_expr.specs.declared.program.ProgramEntries.{ProgramEntries}
 use Rattle.run_model.specs.Program.{lanes, zeros}
 use Rattle.run_model.proofs.InRange.{length-by_lane}
 use Rattle.agg_history.specs.Puts.{PutTable}
-use Rattle.refine_rows.proofs.PutLemmas.{first_made, not_put, vertex_there, within_by_put}
+use Rattle.refine_rows.proofs.PutLemmas.{first_made, not_put, vertex_there, put_made}
 use Rattle.refine_rows.proofs.first.put_first.Goals as goal
 
 pub first_value-value-requires : goal.first_value-value-requires
@@ -49,6 +49,6 @@ returns g c =
     let e : Entry = (c.zeros-zeros.result, c.first_value-value.result) in
     let made = first_made p was now c.requires.over c.args.v there c.zeros-zeros.result c.first_value-value.result
     (c.zeros-zeros.ensures ∙ ap (λ n. replicate n (pos 0)) len) c.first_value-value.ensures.value in
-    let more = within_by_put p was now c.args.history.now t 0 c.args.v c.requires.within c.requires.next
-    e (omega arith) made c.in_ok-put.ensures.found c.put.new.self c.in_ok-put.ensures.ok in
+    let more = put_made p was now c.args.history.now t 0 c.args.v c.requires.within c.requires.next
+    e (omega arith) made c.put.new.self c.in_ok-put.ensures.ok c.in_ok-put.ensures.found in
     record { within = more.0; put = more.1; err = tt }

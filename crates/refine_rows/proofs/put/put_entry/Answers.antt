@@ -8,7 +8,7 @@ use Rattle.run_model.specs.Rows.{at, entry, row}
 use Rattle.run_model.proofs.InRange.{length-by_lane, values_in}
 use Rattle.run_model.proofs.RowLemmas.{aggregates_ranged}
 use Rattle.agg_history.specs.Puts.{PutTable, with_put}
-use Rattle.refine_rows.proofs.PutLemmas.{agg_is_new, entry_made, not_put, vertex_there, within_by_put}
+use Rattle.refine_rows.proofs.PutLemmas.{agg_is_new, entry_made, not_put, vertex_there, put_made}
 use Rattle.refine_rows.proofs.ReadLemmas.{agg_long}
 use Rattle.refine_rows.proofs.put.put_entry.Goals as goal
 
@@ -81,6 +81,6 @@ returns g c =
     let e : Entry = (c.args.agg.now, c.next_value-value.result) in
     let made = entry_made p was now c.requires.over c.args.history.now.cut c.args.i c.args.v c.requires.some c.requires.low there
     c.args.agg.now c.laid_value-before.result c.next_value-value.result c.requires.agg c.laid_value-before.ensures c.next_value-value.ensures.value in
-    let more = within_by_put p was now c.args.history.now t c.args.i c.args.v c.requires.within c.requires.next
-    e (omega arith) made c.in_ok-put.ensures.found c.put.new.self c.in_ok-put.ensures.ok in
+    let more = put_made p was now c.args.history.now t c.args.i c.args.v c.requires.within c.requires.next
+    e (omega arith) made c.put.new.self c.in_ok-put.ensures.ok c.in_ok-put.ensures.found in
     record { within = more.0; put = more.1; err = tt }

@@ -9,8 +9,8 @@ use Rattle.run_model.proofs.ByLane.{IsSoFar, one_more}
 use Rattle.refine_rows.proofs.ReadLemmas.{copied_agg, had_new, had_old, old_entry, same_vertices}
 use Rattle.refine_rows.proofs.values.old_agg.Goals as goal
 
-pub returns-then-vertices_le-v : goal.returns-then-vertices_le-v
-returns-then-vertices_le-v g c =
+pub returns-then-vertices-v : goal.returns-then-vertices-v
+returns-then-vertices-v g c =
     let p : ProgramEntries = c.args.program.now in
     let was : Graph = g.O.OldGraph.graph in
     let count = same_vertices p was c.args.history.now c.requires.stands in
@@ -22,7 +22,7 @@ pub agg-requires : goal.agg-requires
 agg-requires g c =
     let p : ProgramEntries = c.args.program.now in
     let some = c.vertices.ensures.count in
-    let past = c.if-vertices_le-v.false in
+    let past = c.if-vertices-v.false in
     let wide = c.requires.stands.lanes in
     let low = c.requires.iteration in
     let len : c.len-lanes.result ≡ lanes p = c.len-lanes.ensures
@@ -38,7 +38,7 @@ loop-lane-preserved g c =
     let lane : ℕ = c.loop-lane.lane in
     let count = same_vertices p was c.args.history.now c.requires.stands in
     let some = c.vertices.ensures.count in
-    let past = c.if-vertices_le-v.false in
+    let past = c.if-vertices-v.false in
     let there : c.args.v < vertices was = omega arith in
     let len : c.len-lanes.result ≡ lanes p = c.len-lanes.ensures
     ∙ ap (λ (x : ProgramEntries). length x.ranges) c.entries.ensures.entries in
@@ -57,7 +57,7 @@ returns g c =
     let was : Graph = g.O.OldGraph.graph in
     let count = same_vertices p was c.args.history.now c.requires.stands in
     let some = c.vertices.ensures.count in
-    let before = c.if-vertices_le-v.false in
+    let before = c.if-vertices-v.false in
     let there : c.args.v < vertices was = omega arith in
     let len : c.len-lanes.result ≡ lanes p = c.len-lanes.ensures
     ∙ ap (λ (x : ProgramEntries). length x.ranges) c.entries.ensures.entries in
