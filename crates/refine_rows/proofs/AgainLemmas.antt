@@ -1,5 +1,7 @@
 -- Which vertices are dirty, and which are evaluated again, by lists that are merged.
-use Rattle.std.proofs.Common.{◌≡◌, ℕ, zero, suc, ◌+◌, ◌-◌, ◌<◌, ◌≤◌, Bool, true, false, not, ◌||◌, ◌&&◌, List, length, get_or, map, filter, take, inl, inr, refl, sym, ap, ◌∙◌, subst, arith}
+use Rattle.std.proofs.Common.{◌≡◌, ℕ, zero, suc, ◌+◌, ◌-◌, ◌<◌, ◌≤◌, Bool, true, false, not, ◌||◌}
+use Rattle.std.proofs.Common.{◌&&◌, List, length, get_or, map, filter, take, inl, inr, refl, sym}
+use Rattle.std.proofs.Common.{ap, ◌∙◌, subst, arith}
 use Rattle.std.specs.List.{range_with_len, list_any}
 use Rattle.std.proofs.lemmas.Bool.{cases_Bool, eq-eqb}
 use Rattle.std.proofs.lemmas.List.{get_or-map, length-map, map-id, take_all}
@@ -12,14 +14,16 @@ use Rattle.bolt_base.specs.declared.edge.AttrChange.{AttrChange}
 use Rattle.bolt_base.specs.declared.edge.Touched.{Touched}
 use Rattle.vertex_expr.specs.declared.program.ProgramEntries.{ProgramEntries}
 use Rattle.run_model.specs.Refined.{is_again}
-use Rattle.run_model.specs.Steps.{Step, dirty, is_applied, is_dirty, is_target, reads_attr, reads_outdeg, step, targets, value_changed}
+use Rattle.run_model.specs.Steps.{Step, dirty, is_applied, is_dirty, is_target, reads_attr}
+use Rattle.run_model.specs.Steps.{reads_outdeg, step, targets, value_changed}
 use Rattle.run_model.proofs.Known.{changed_applied, changed_begun}
 use Rattle.run_model.proofs.Still.{not_new}
 use Rattle.refine_rows.specs.Over.{AreOver}
 use Rattle.refine_rows.specs.Picked.{old_only, vertices_where}
 use Rattle.refine_rows.specs.Progress.{again}
 use Rattle.refine_rows.specs.Seen.{changed_values}
-use Rattle.refine_rows.proofs.PickLemmas.{agree_within, filter_both, filter_within, picked_where, where_old}
+use Rattle.refine_rows.proofs.PickLemmas.{agree_within, filter_both, filter_within, picked_where}
+use Rattle.refine_rows.proofs.PickLemmas.{where_old}
 
 -- ---- the lists of a change
 pub attrs_are : (g h : Graph)
@@ -27,7 +31,8 @@ pub attrs_are : (g h : Graph)
     ≡ vertices_where (vertices g) (attr_changed g h)
 attrs_are g h =
     let us : List ℕ = vertices_where (vertices g) (attr_changed g h) in
-    let make : (ℕ → AttrChange) = λ v. record { vertex = v; old = attr_at g v; new = attr_at h v } in
+    let make : (ℕ → AttrChange) = λ v. record { vertex = v; old = attr_at g v; new = attr_at h v }
+        in
     map-map (λ (a : AttrChange). a.vertex) make us ∙ map-id us
 
 pub sources_are : (g h : Graph)
@@ -94,17 +99,20 @@ again_there p g h i vs k is l =
 changed_again : (p : ProgramEntries) (g h : Graph) → IsGood p.limits g → (i v : ℕ) → v < vertices h
     → value_changed (step p g h (i + 1)) v ≡ true → is_again p g h i v ≡ true
 changed_again p g h good zero v there t = changed_begun p g h 0 v there t
-changed_again p g h good (suc i) v there t = changed_applied p g h good (suc i) v (omega arith) there t
+changed_again p g h good (suc i) v there t = changed_applied p g h good (suc i) v (omega arith)
+    there t
 
 among_again : (p : ProgramEntries) (g h : Graph) → AreOver p g h → (i : ℕ) → 1 ≤ i
-    → filter (old_only g (value_changed (step p g h i))) (again p g h (i - 1)) ≡ changed_values p g h i
+    → filter (old_only g (value_changed (step p g h i))) (again p g h (i - 1))
+        ≡ changed_values p g h i
 among_again p g h over i some =
     let test : (ℕ → Bool) = old_only g (value_changed (step p g h i)) in
     filter_both (is_again p g h (i - 1)) test (range_with_len 0 (vertices h))
     ∙ agree_within (vertices h) 0 (λ v. is_again p g h (i - 1) v && test v) test
     (λ v low high. both (is_again p g h (i - 1) v) (is_new g v) (value_changed (step p g h i) v)
     (λ t. changed_again p g h over.old (i - 1) v (omega arith)
-    (subst (λ k. value_changed (step p g h k) v ≡ true) (let e : i ≡ i - 1 + 1 = omega arith in e) t)))
+    (subst (λ k. value_changed (step p g h k) v ≡ true) (let e : i ≡ i - 1 + 1 = omega arith in e)
+        t)))
     ∙ sym (where_old g (vertices h) over.more (value_changed (step p g h i)))
   where
     both : (a n c : Bool) → (c ≡ true → a ≡ true) → (a && (not n && c)) ≡ (not n && c)

@@ -1,5 +1,7 @@
 -- Lists that rise, merged head by head.
-use Rattle.std.proofs.Common.{◌≡◌, ◌≢◌, ℕ, zero, suc, ◌+◌, ◌<◌, ◌≤◌, Bool, true, false, ◌||◌, ◌⊎◌, cond, eqb, ltb, List, [], ◌∷◌, ◌++◌, length, get_or, drop, filter, inl, inr, refl, sym, ap, ◌∙◌, arith}
+use Rattle.std.proofs.Common.{◌≡◌, ◌≢◌, ℕ, zero, suc, ◌+◌, ◌<◌, ◌≤◌, Bool, true, false, ◌||◌, ◌⊎◌}
+use Rattle.std.proofs.Common.{cond, eqb, ltb, List, [], ◌∷◌, ◌++◌, length, get_or, drop, filter}
+use Rattle.std.proofs.Common.{inl, inr, refl, sym, ap, ◌∙◌, arith}
 use Rattle.std.specs.List.{range_with_len}
 use Rattle.std.proofs.Math.Seq.{drop-cons}
 use Rattle.std.proofs.lemmas.Bool.{eq-eqb, ne_eqb}
@@ -46,19 +48,27 @@ merged_nil (x ∷ xs) = refl
 -- ---- what tests pick of a range
 -- what is picked past x is merged behind x
 behind_right : (x n m : ℕ) (q : ℕ → Bool) (xs : List ℕ) → x < m
-    → merged (x ∷ xs) (filter q (range_with_len m n)) ≡ x ∷ merged xs (filter q (range_with_len m n))
+    → merged (x ∷ xs) (filter q (range_with_len m n))
+        ≡ x ∷ merged xs (filter q (range_with_len m n))
 behind_right x zero m q xs h = ap (λ zs. x ∷ zs) (sym (merged_nil xs))
-behind_right x (suc n) m q xs h = elim (q m) as (λ b. merged (x ∷ xs) (cond b (m ∷ filter q (range_with_len (m + 1) n)) (filter q (range_with_len (m + 1) n)))
-    ≡ x ∷ merged xs (cond b (m ∷ filter q (range_with_len (m + 1) n)) (filter q (range_with_len (m + 1) n)))) [
+behind_right x (suc n) m q xs h = elim (q m) as
+    (λ b. merged (x ∷ xs) (cond b (m ∷ filter q (range_with_len (m + 1) n))
+        (filter q (range_with_len (m + 1) n)))
+    ≡ x ∷ merged xs (cond b (m ∷ filter q (range_with_len (m + 1) n))
+        (filter q (range_with_len (m + 1) n)))) [
   | true ↦ merged_left x m xs (filter q (range_with_len (m + 1) n)) h
   | false ↦ behind_right x n (m + 1) q xs (omega arith)
 ]
 
 behind_left : (y n m : ℕ) (p : ℕ → Bool) (ys : List ℕ) → y < m
-    → merged (filter p (range_with_len m n)) (y ∷ ys) ≡ y ∷ merged (filter p (range_with_len m n)) ys
+    → merged (filter p (range_with_len m n)) (y ∷ ys)
+        ≡ y ∷ merged (filter p (range_with_len m n)) ys
 behind_left y zero m p ys h = refl
-behind_left y (suc n) m p ys h = elim (p m) as (λ b. merged (cond b (m ∷ filter p (range_with_len (m + 1) n)) (filter p (range_with_len (m + 1) n))) (y ∷ ys)
-    ≡ y ∷ merged (cond b (m ∷ filter p (range_with_len (m + 1) n)) (filter p (range_with_len (m + 1) n))) ys) [
+behind_left y (suc n) m p ys h = elim (p m) as
+    (λ b. merged (cond b (m ∷ filter p (range_with_len (m + 1) n))
+        (filter p (range_with_len (m + 1) n))) (y ∷ ys)
+    ≡ y ∷ merged (cond b (m ∷ filter p (range_with_len (m + 1) n))
+        (filter p (range_with_len (m + 1) n))) ys) [
   | true ↦ merged_right m y (filter p (range_with_len (m + 1) n)) ys h
   | false ↦ behind_left y n (m + 1) p ys (omega arith)
 ]
@@ -72,7 +82,8 @@ merged_where (suc n) m p q =
     let ys : List ℕ = filter q (range_with_len (m + 1) n) in
     let zs : List ℕ = filter (λ v. p v || q v) (range_with_len (m + 1) n) in
     let rest : merged xs ys ≡ zs = merged_where n (m + 1) p q in
-    elim (p m) as (λ a. merged (cond a (m ∷ xs) xs) (cond (q m) (m ∷ ys) ys) ≡ cond (a || q m) (m ∷ zs) zs) [
+    elim (p m) as (λ a. merged (cond a (m ∷ xs) xs) (cond (q m) (m ∷ ys) ys)
+        ≡ cond (a || q m) (m ∷ zs) zs) [
       | true ↦ elim (q m) as (λ b. merged (m ∷ xs) (cond b (m ∷ ys) ys) ≡ m ∷ zs) [
         | true ↦ merged_both m m xs ys refl ∙ ap (λ ts. m ∷ ts) rest
         | false ↦ behind_right m n (m + 1) q xs (omega arith) ∙ ap (λ ts. m ∷ ts) rest
@@ -89,43 +100,6 @@ are_merged xs ys all e n p q left right =
     ∙ merged_where n 0 p q
 
 -- ---- a loop that merges
-drop_more : (xs : List ℕ) (i d : ℕ) → i < length xs → drop i xs ≡ get_or xs i d ∷ drop (i + 1) xs
-drop_more xs i d l = drop-cons xs i d l
-    ∙ ap (λ k. get_or xs i d ∷ drop k xs) (let e : suc i ≡ i + 1 = omega arith in e)
-
-module _ (xs ys all : List ℕ) (i j : ℕ) (left : i < length xs) (right : j < length ys) where
-  abbrev x : ℕ
-  x = get_or xs i 0
-
-  abbrev y : ℕ
-  y = get_or ys j 0
-
-  heads : merged (drop i xs) (drop j ys) ≡ merged (x ∷ drop (i + 1) xs) (y ∷ drop (j + 1) ys)
-  heads = λ k. merged (drop_more xs i 0 left k) (drop_more ys j 0 right k)
-
-  push_first : (z : ℕ) (zs : List ℕ) → all ++ z ∷ zs ≡ (all ++ z ∷ []) ++ zs
-  push_first z zs = sym (append_assoc all (z ∷ []) zs)
-
-  pub take_right : y < x → all ++ merged (drop i xs) (drop j ys)
-      ≡ (all ++ y ∷ []) ++ merged (drop i xs) (drop (j + 1) ys)
-  take_right less =
-      ap (λ zs. all ++ zs) (heads ∙ merged_right x y (drop (i + 1) xs) (drop (j + 1) ys) less)
-      ∙ push_first y (merged (x ∷ drop (i + 1) xs) (drop (j + 1) ys))
-      ∙ ap (λ zs. (all ++ y ∷ []) ++ merged zs (drop (j + 1) ys)) (sym (drop_more xs i 0 left))
-
-  pub take_left : x < y → all ++ merged (drop i xs) (drop j ys)
-      ≡ (all ++ x ∷ []) ++ merged (drop (i + 1) xs) (drop j ys)
-  take_left less =
-      ap (λ zs. all ++ zs) (heads ∙ merged_left x y (drop (i + 1) xs) (drop (j + 1) ys) less)
-      ∙ push_first x (merged (drop (i + 1) xs) (y ∷ drop (j + 1) ys))
-      ∙ ap (λ zs. (all ++ x ∷ []) ++ merged (drop (i + 1) xs) zs) (sym (drop_more ys j 0 right))
-
-  pub take_both : x ≡ y → all ++ merged (drop i xs) (drop j ys)
-      ≡ (all ++ x ∷ []) ++ merged (drop (i + 1) xs) (drop (j + 1) ys)
-  take_both same =
-      ap (λ zs. all ++ zs) (heads ∙ merged_both x y (drop (i + 1) xs) (drop (j + 1) ys) same)
-      ∙ push_first x (merged (drop (i + 1) xs) (drop (j + 1) ys))
-
 pub merged_end : (xs ys all : List ℕ) → (length xs ≡ 0) ⊎ (length ys ≡ 0)
     → all ++ merged xs ys ≡ (all ++ xs) ++ ys
 merged_end [] ys all e = ap (λ zs. zs ++ ys) (sym (append-nil all))

@@ -1,12 +1,16 @@
 -- Tests over a range of vertices.
-use Rattle.std.proofs.Common.{◌≡◌, ℕ, zero, suc, ◌+◌, ◌-◌, ◌<◌, ◌≤◌, Bool, true, false, not, ◌||◌, ◌&&◌, cond, eqb, ltb, List, [], ◌∷◌, ◌++◌, length, get_or, map, filter, take, inl, inr, refl, sym, ap, ◌∙◌, subst, arith, length-append}
+use Rattle.std.proofs.Common.{◌≡◌, ℕ, zero, suc, ◌+◌, ◌-◌, ◌<◌, ◌≤◌, Bool, true, false, not, ◌||◌}
+use Rattle.std.proofs.Common.{◌&&◌, cond, eqb, ltb, List, [], ◌∷◌, ◌++◌, length, get_or, map}
+use Rattle.std.proofs.Common.{filter, take, inl, inr, refl, sym, ap, ◌∙◌, subst, arith}
+use Rattle.std.proofs.Common.{length-append}
 use Rattle.std.specs.List.{range_with_len, Contains}
 use Rattle.std.specs.List.Sorted.{IsSorted, IsStrictlyIncreasing}
 use Rattle.std.specs.Ordering.{is_lt, nat_cmp}
 use Rattle.std.specs.declared.cmp.Ordering.TheVariants.{Less, Equal, Greater}
 use Rattle.std.proofs.lemmas.Bool.{cases_eq, ne_eqb}
 use Rattle.std.proofs.lemmas.Bool.Decides.{nat_tests}
-use Rattle.std.proofs.lemmas.List.{append-nil, get_or_default, get_or-take, length-take-le, map-append, take_more}
+use Rattle.std.proofs.lemmas.List.{append-nil, get_or_default, get_or-take, length-take-le}
+use Rattle.std.proofs.lemmas.List.{map-append, take_more}
 use Rattle.std.proofs.lemmas.List.Elements.{filter-append, filter_agree}
 use Rattle.std.proofs.lemmas.List.Kept.{AllPairs-from_increasing, IsStrictlyIncreasing-filter}
 use Rattle.std.proofs.lemmas.List.FromFn.{length-range_with_len, get_or-range_with_len}
@@ -39,12 +43,15 @@ all_within (suc n) m p h =
     (h m (omega arith) (omega arith))
     ∙ ap (λ vs. m ∷ vs) (all_within n (m + 1) p (λ v l k. h v (omega arith) (omega arith)))
 
-range_split : (a m b : ℕ) → range_with_len m (a + b) ≡ range_with_len m a ++ range_with_len (m + a) b
-range_split zero m b = λ j. range_with_len (let e : m ≡ m + 0 = omega arith in e j) (let e : 0 + b ≡ b = omega arith in e j)
+range_split : (a m b : ℕ) → range_with_len m (a + b) ≡ range_with_len m a
+    ++ range_with_len (m + a) b
+range_split zero m b = λ j. range_with_len (let e : m ≡ m + 0 = omega arith in e j)
+    (let e : 0 + b ≡ b = omega arith in e j)
 range_split (suc a) m b =
     ap (range_with_len m) (let e : suc a + b ≡ suc (a + b) = omega arith in e)
     ∙ ap (λ vs. m ∷ vs) (range_split a (m + 1) b
-    ∙ ap (λ k. range_with_len (m + 1) a ++ range_with_len k b) (let e : m + 1 + a ≡ m + suc a = omega arith in e))
+    ∙ ap (λ k. range_with_len (m + 1) a ++ range_with_len k b)
+        (let e : m + 1 + a ≡ m + suc a = omega arith in e))
 
 pub range_next : (a v : ℕ) → a ≤ v
     → range_with_len a (v + 1 - a) ≡ range_with_len a (v - a) ++ v ∷ []
@@ -62,15 +69,18 @@ where_split k n p low =
     ap (λ m. filter p (range_with_len 0 m)) (let e : n ≡ k + (n - k) = omega arith in e)
     ∙ ap (filter p) (range_split k 0 (n - k))
     ∙ filter-append p (range_with_len 0 k) (range_with_len (0 + k) (n - k))
-    ∙ ap (λ m. vertices_where k p ++ filter p (range_with_len m (n - k))) (let e : 0 + k ≡ k = omega arith in e)
+    ∙ ap (λ m. vertices_where k p ++ filter p (range_with_len m (n - k)))
+        (let e : 0 + k ≡ k = omega arith in e)
 
 module _ (g : Graph) (n : ℕ) (more : vertices g ≤ n) where
   pub where_old : (p : ℕ → Bool) → vertices_where (vertices g) p ≡ vertices_where n (old_only g p)
   where_old p = sym (where_split (vertices g) n (old_only g p) more
       ∙ ap (λ vs. vs ++ filter (old_only g p) (range_with_len (vertices g) (n - vertices g)))
-      (agree_within (vertices g) 0 (old_only g p) p (λ v l k. ap (λ b. not b && p v) (not_new (vertices g) v (omega arith))))
+      (agree_within (vertices g) 0 (old_only g p) p
+          (λ v l k. ap (λ b. not b && p v) (not_new (vertices g) v (omega arith))))
       ∙ ap (λ vs. vertices_where (vertices g) p ++ vs)
-      (none_within (n - vertices g) (vertices g) (old_only g p) (λ v l k. ap (λ b. not b && p v) (is_le (vertices g) v l)))
+      (none_within (n - vertices g) (vertices g) (old_only g p)
+          (λ v l k. ap (λ b. not b && p v) (is_le (vertices g) v l)))
       ∙ append-nil (vertices_where (vertices g) p))
 
   pub where_new : range_with_len (vertices g) (n - vertices g) ≡ vertices_where n (is_new g)
@@ -99,11 +109,13 @@ contains_within zero m p v l k t = absurd (omega arith)
 contains_within (suc n) m p v l k t = elim (cases_eq v m) [
   | inl e ↦
       let here : p m ≡ true = ap p (sym e) ∙ t in
-      subst (λ b. Contains (cond b (m ∷ filter p (range_with_len (m + 1) n)) (filter p (range_with_len (m + 1) n))) v) (sym here)
+      subst (λ b. Contains (cond b (m ∷ filter p (range_with_len (m + 1) n))
+          (filter p (range_with_len (m + 1) n))) v) (sym here)
       (zero, omega arith, sym e)
   | inr d ↦
       let rest = contains_within n (m + 1) p v (omega arith) (omega arith) t in
-      elim (p m) as (λ b. Contains (cond b (m ∷ filter p (range_with_len (m + 1) n)) (filter p (range_with_len (m + 1) n))) v) [
+      elim (p m) as (λ b. Contains (cond b (m ∷ filter p (range_with_len (m + 1) n))
+          (filter p (range_with_len (m + 1) n))) v) [
         | true ↦ contains_cons m v (filter p (range_with_len (m + 1) n)) rest
         | false ↦ rest
       ]
@@ -130,7 +142,8 @@ picked_within zero m p k l = absurd (omega arith)
 picked_within (suc n) m p k l =
     let vs : List ℕ = filter p (range_with_len (m + 1) n) in
     let rest : ((j : ℕ) → j < length vs → IsPicked (m + suc n) p (get_or vs j 0)) =
-    λ j h. subst (λ e. IsPicked e p (get_or vs j 0)) (let e : m + 1 + n ≡ m + suc n = omega arith in e)
+    λ j h. subst (λ e. IsPicked e p (get_or vs j 0))
+        (let e : m + 1 + n ≡ m + suc n = omega arith in e)
     (picked_within n (m + 1) p j h) in
     elim (p m) as (λ b. p m ≡ b → k < length (cond b (m ∷ vs) vs)
     → IsPicked (m + suc n) p (get_or (cond b (m ∷ vs) vs) k 0)) [
@@ -156,7 +169,8 @@ pub not_before : (n : ℕ) (p : ℕ → Bool) (k v : ℕ) → k < length (vertic
     → get_or (vertices_where n p) k 0 ≡ v → Contains (take k (vertices_where n p)) v → ⊥
 not_before n p k v l at c =
     let xs : List ℕ = vertices_where n p in
-    let rises = AllPairs-from_increasing xs (IsStrictlyIncreasing-filter p (range_with_len 0 n) (range_rises n)) in
+    let rises = AllPairs-from_increasing xs
+        (IsStrictlyIncreasing-filter p (range_with_len 0 n) (range_rises n)) in
     let long : length (take k xs) ≡ k = length-take-le k xs (omega arith) in
     let j : ℕ = c.0 in
     let small : j < k = omega (arith, c.1) in
@@ -180,7 +194,8 @@ sorted_where n p k d low l =
     not_less (get_or xs (k + 1) d) (get_or xs k d) (omega arith)
 
 -- ---- a loop that picks
-pub picked_more : {X : Type 0} (f : X → ℕ) (p : ℕ → Bool) (xs : List X) (k : ℕ) (d : X) → k < length xs
+pub picked_more : {X : Type 0} (f : X → ℕ) (p : ℕ → Bool) (xs : List X) (k : ℕ) (d : X)
+    → k < length xs
     → filter p (map f (take (k + 1) xs))
     ≡ filter p (map f (take k xs)) ++ cond (p (f (get_or xs k d))) (f (get_or xs k d) ∷ []) []
 picked_more f p xs k d l =
@@ -208,7 +223,8 @@ module _ {X : Type 0} (f : X → ℕ) (p : ℕ → Bool) (xs : List X) (k : ℕ)
 -- where all that pass one test pass another
 pub filter_within : {X : Type 0} (p q : X → Bool) (xs : List X)
     → ((x : X) → q x ≡ true → p x ≡ true) → filter q (filter p xs) ≡ filter q xs
-filter_within p q xs h = filter_both p q xs ∙ filter_agree (λ x. p x && q x) q (λ x. same (p x) (q x) (h x)) xs
+filter_within p q xs h = filter_both p q xs
+    ∙ filter_agree (λ x. p x && q x) q (λ x. same (p x) (q x) (h x)) xs
   where
     same : (a b : Bool) → (b ≡ true → a ≡ true) → (a && b) ≡ b
     same true b e = refl

@@ -1,5 +1,8 @@
 -- How far the refinement has come, put by put and iteration by iteration.
-use Rattle.std.proofs.Common.{◌≡◌, ℕ, ℤ, zero, suc, ◌+◌, ◌-◌, ◌<◌, ◌≤◌, Bool, true, false, eqb, List, [], ◌∷◌, ◌++◌, Option, Some, None, length, get_or, map, take, set, replicate, inl, inr, refl, sym, ap, ◌∙◌, subst, arith, length-append, length-set}
+use Rattle.std.proofs.Common.{◌≡◌, ℕ, ℤ, zero, suc, ◌+◌, ◌-◌, ◌<◌, ◌≤◌, Bool, true, false, eqb}
+use Rattle.std.proofs.Common.{List, [], ◌∷◌, ◌++◌, Option, Some, None, length, get_or, map, take}
+use Rattle.std.proofs.Common.{set, replicate, inl, inr, refl, sym, ap, ◌∙◌, subst, arith}
+use Rattle.std.proofs.Common.{length-append, length-set}
 use Rattle.std.specs.Prelude.{slice_get, IsSome}
 use Rattle.std.specs.List.{Contains, range_with_len}
 use Rattle.std.specs.List.Sorted.{IsSorted}
@@ -7,9 +10,11 @@ use Rattle.std.specs.Map.{lookup}
 use Rattle.std.specs.Ordering.{nat_cmp}
 use Rattle.std.proofs.lemmas.Bool.{cases_eq, cases_Bool, false≢true}
 use Rattle.std.proofs.lemmas.Cmp.{nat_eq_equiv}
-use Rattle.std.proofs.lemmas.List.{get_or-set_same, get_or-set_other, length-replicate, map-append, take_all, take_more}
+use Rattle.std.proofs.lemmas.List.{get_or-set_same, get_or-set_other, length-replicate, map-append}
+use Rattle.std.proofs.lemmas.List.{take_all, take_more}
 use Rattle.std.proofs.lemmas.List.FromFn.{get_or-map-range_with_len, length-map-range_with_len}
-use Rattle.std.proofs.lemmas.Map.Views.{Contains-keys_from_lookup, IsSome-lookup_from_Contains, exact_unsigned_eq}
+use Rattle.std.proofs.lemmas.Map.Views.{Contains-keys_from_lookup, IsSome-lookup_from_Contains}
+use Rattle.std.proofs.lemmas.Map.Views.{exact_unsigned_eq}
 use Rattle.std.proofs.lemmas.Option.{get_or_from_slice_get, none-some, same_Some, slice_get_within}
 use Rattle.bolt_base.specs.Graph.{Graph, vertices}
 use Rattle.bolt_base.specs.Keep.{Entry, Row}
@@ -39,7 +44,8 @@ use Rattle.refine_rows.proofs.ReadLemmas.{entries_long, new_put, same_vertices}
 found_put : (round : Round) (v : ℕ) → Contains (map (λ put. put.0) round) v
     → lookup (λ u. eqb v u) round ≡ None → ⊥
 found_put round v c none =
-    let some : IsSome (lookup (λ u. eqb v u) round) = IsSome-lookup_from_Contains nat_eq_equiv v round c in
+    let some : IsSome (lookup (λ u. eqb v u) round) = IsSome-lookup_from_Contains nat_eq_equiv v
+        round c in
     false≢true (subst IsSome none some)
 
 -- ---- one more put
@@ -63,9 +69,11 @@ module _ (p : ProgramEntries) (g h : Graph) (history : HistoryState) (t : PutTab
   pub not_put : put_at t.puts i v ≡ None
   not_put = elim (put_at t.puts i v) as (λ o. put_at t.puts i v ≡ o → o ≡ None) [
     | None ↦ λ _. refl
-    | Some e ↦ λ is. absurd (not_before (vertices h) (is_again p g h i) so_many v place_within vertex_is
+    | Some e ↦ λ is. absurd (not_before (vertices h) (is_again p g h i) so_many v place_within
+        vertex_is
         (subst (λ vs. Contains vs v) within.first
-        (Contains-keys_from_lookup exact_unsigned_eq v (round_at t.puts i) (subst IsSome (sym is) refl))))
+        (Contains-keys_from_lookup exact_unsigned_eq v (round_at t.puts i)
+            (subst IsSome (sym is) refl))))
   ] refl
 
   module _ (e : Entry) (low : i ≤ t.cut) (is_new_entry : e ≡ entry p h i v)
@@ -91,7 +99,8 @@ module _ (p : ProgramEntries) (g h : Graph) (history : HistoryState) (t : PutTab
         → IsRefined p g h (put_at grown.puts) j u
     still j u less r =
         let same = found.elsewhere j u (λ s _. let l = less in omega arith) in
-        record { right = λ x is. r.right x (sym same ∙ is); rest = λ none. r.rest (sym same ∙ none) }
+        record { right = λ x is. r.right x (sym same ∙ is); rest = λ none. r.rest (sym same ∙ none)
+            }
 
     pub within_more : IsRefinedWithin p g h history grown i
     within_more = record {
@@ -188,7 +197,8 @@ module _ (p : ProgramEntries) (g h : Graph) (history : HistoryState) (t : PutTab
             | inr apart ↦ w.listed j (omega arith)
           ];
           first = ap (map (λ (put : ℕ × Entry). put.0)) none
-              ∙ ap (λ (round : Round). take (length (map (λ (put : ℕ × Entry). put.0) round)) (again p g h (i + 1))) (sym none);
+              ∙ ap (λ (round : Round). take (length (map (λ (put : ℕ × Entry). put.0) round))
+                  (again p g h (i + 1))) (sym none);
           right = λ v e there is. absurd (empty_round (round_at t.puts (i + 1)) v e none is);
           rest = λ j past. w.rest j (omega arith);
         };
@@ -232,7 +242,8 @@ module _ (p : ProgramEntries) (g h : Graph) (history : HistoryState) (t : PutTab
             done = λ j u less there. absurd (omega arith);
             listed = λ j less. absurd (omega arith);
             first = ap (map (λ (put : ℕ × Entry). put.0)) (none 0)
-                ∙ ap (λ (round : Round). take (length (map (λ (put : ℕ × Entry). put.0) round)) (again p g h 0)) (sym (none 0));
+                ∙ ap (λ (round : Round). take (length (map (λ (put : ℕ × Entry). put.0) round))
+                    (again p g h 0)) (sym (none 0));
             right = λ v e there found. absurd (empty_round (round_at t.puts 0) v e (none 0) found);
             rest = λ j past. none j;
           };
@@ -243,7 +254,8 @@ module _ (p : ProgramEntries) (g h : Graph) (history : HistoryState) (t : PutTab
   full_rows : (n cut : ℕ) → vertices h ≡ n → AreFull n (rows_to p h cut)
   full_rows n cut e k d l =
       let long = length-map-range_with_len (entries p h) 0 (cut + 1) in
-      ap length (get_or-map-range_with_len (entries p h) 0 (cut + 1) k k d (omega arith) (omega arith))
+      ap length (get_or-map-range_with_len (entries p h) 0 (cut + 1) k k d (omega arith)
+          (omega arith))
       ∙ entries_long p h k ∙ e
 
   pub ends : AreOver p g h → IsRefinedTo p g h history t (history.cut + 1)
@@ -270,7 +282,8 @@ module _ (p : ProgramEntries) (g h : Graph) (history : HistoryState) (t : PutTab
             (full_rows t.vertices cut (sym laid.vertices))
             (record {
               right = λ i v e less there is. leads.right i v e (omega arith) (omega arith) is;
-              rest = λ i v less there none. ap (λ (rows : List Row). entry_at rows i v) laid.stands.rows
+              rest = λ i v less there none. ap (λ (rows : List Row). entry_at rows i v)
+                  laid.stands.rows
                   ∙ leads.rest i v (omega arith) (omega arith) none;
             });
         new = λ i v low past there. new_put p g h history t over laid i v

@@ -1,8 +1,11 @@
 -- What the old rows have, and what the rows have with puts laid over them.
-use Rattle.std.proofs.Common.{◌≡◌, ℕ, ℤ, pos, zero, suc, ◌+◌, ◌-◌, ◌<◌, ◌≤◌, Bool, true, false, ◌||◌, cond, List, [], Option, Some, None, length, get_or, map, inl, inr, refl, sym, ap, ◌∙◌, subst, arith}
+use Rattle.std.proofs.Common.{◌≡◌, ℕ, ℤ, pos, zero, suc, ◌+◌, ◌-◌, ◌<◌, ◌≤◌, Bool, true, false}
+use Rattle.std.proofs.Common.{◌||◌, cond, List, [], Option, Some, None, length, get_or, map, inl}
+use Rattle.std.proofs.Common.{inr, refl, sym, ap, ◌∙◌, subst, arith}
 use Rattle.std.specs.Prelude.{IsSome}
 use Rattle.std.specs.List.{range_with_len, All, zip}
-use Rattle.std.proofs.lemmas.List.FromFn.{get_or-map-range_with_len, length-map-range_with_len, fill_by_all}
+use Rattle.std.proofs.lemmas.List.FromFn.{get_or-map-range_with_len, length-map-range_with_len}
+use Rattle.std.proofs.lemmas.List.FromFn.{fill_by_all}
 use Rattle.std.proofs.lemmas.Slice.Zip.{length-zip}
 use Rattle.bolt_base.specs.Differs.{is_new}
 use Rattle.bolt_base.specs.Graph.{Graph, vertices}
@@ -39,10 +42,12 @@ module _ (p : ProgramEntries) (g : Graph) (history : HistoryState) (stands : Sta
   same_vertices =
       sym (length-map-range_with_len (read_at history.now 0) 0 (vertices_of history))
       ∙ sym (ap length (get_or-map-range_with_len
-      (λ i. map (read_at history.now i) (range_with_len 0 (vertices_of history))) 0 (history.cut + 1) 0 0 []
+      (λ i. map (read_at history.now i) (range_with_len 0 (vertices_of history))) 0
+          (history.cut + 1) 0 0 []
       (omega arith) (omega arith)))
       ∙ ap (λ (rows : List Row). length (get_or rows 0 [])) stands.rows
-      ∙ ap length (get_or-map-range_with_len (entries p g) 0 (history.cut + 1) 0 0 [] (omega arith) (omega arith))
+      ∙ ap length (get_or-map-range_with_len (entries p g) 0 (history.cut + 1) 0 0 [] (omega arith)
+          (omega arith))
       ∙ entries_long p g 0
 
   pub old_entry : (i v : ℕ) → i ≤ history.cut → v < vertices g
@@ -53,14 +58,16 @@ module _ (p : ProgramEntries) (g : Graph) (history : HistoryState) (stands : Sta
   pub had_old : (i v : ℕ) → v < vertices g
       → had_before p g history.cut i v ≡ (entry_at (rows_of history) i v).0
   had_old i v there =
-      ap (λ b. cond b (by_lane p (λ _. empty_of p.combine)) (entry_at (rows_to p g history.cut) i v).0)
+      ap (λ b. cond b (by_lane p (λ _. empty_of p.combine))
+          (entry_at (rows_to p g history.cut) i v).0)
       (not_new (vertices g) v there)
       ∙ ap (λ rows. (entry_at rows i v).0) (sym stands.rows)
 
   pub had_new : (i v : ℕ) → vertices g ≤ v
       → had_before p g history.cut i v ≡ by_lane p (λ _. empty_of p.combine)
   had_new i v past =
-      ap (λ b. cond b (by_lane p (λ _. empty_of p.combine)) (entry_at (rows_to p g history.cut) i v).0)
+      ap (λ b. cond b (by_lane p (λ _. empty_of p.combine))
+          (entry_at (rows_to p g history.cut) i v).0)
       (new_is g v past)
 
 -- ---- as many numbers as lanes
@@ -117,17 +124,36 @@ module _ (p : ProgramEntries) (g h : Graph) (history : HistoryState) (t : PutTab
       ∙ laid_is p g h over.old (put_at t.puts) history.cut i v low there refined
 
 -- ---- rows
+pub copied_list : (n k : ℕ) (xs ys : List ℤ) → length ys ≡ n → IsSoFar (number ys) n k xs → n ≤ k
+    → xs ≡ ys
+copied_list n k xs ys long so past =
+    fill_by_all (number ys) xs n (pos 0) so.long (λ l small. so.below l (omega arith))
+    ∙ sym (fill_by_all (number ys) ys n (pos 0) long (λ l small. refl))
+
+-- a row that is made of a value for each vertex
+pub at_row : (f : ℕ → List ℤ) (n v : ℕ) → v < length (map f (range_with_len 0 n))
+    → at (map f (range_with_len 0 n)) v ≡ f v
+at_row f n v there =
+    let long = length-map-range_with_len f 0 n in
+    get_or-map-range_with_len f 0 n v v [] (omega arith) (omega arith)
+
+pub below_row : (f : ℕ → List ℤ) (n v : ℕ) → v < length (map f (range_with_len 0 n)) → v < n
+below_row f n v there = let long = length-map-range_with_len f 0 n in omega arith
+
 module _ (p : ProgramEntries) (g : Graph) (history : HistoryState) (stands : StandsFor p g history)
     (i : ℕ) (low : i ≤ history.cut) where
   pub old_row : row_values (vertices_of history) (rows_of history) i ≡ row p g i
   old_row =
       let w = values_whole p g i in
       let count = same_vertices p g history stands in
-      sym (fill_by_all (λ v. (entry_at (rows_of history) i v).1) (row p g i) (vertices_of history) []
+      sym (fill_by_all (λ v. (entry_at (rows_of history) i v).1) (row p g i) (vertices_of history)
+          []
       (w.each_vertex ∙ sym count)
-      (λ v there. sym (ap (λ (e : Entry). e.1) (old_entry p g history stands i v low (omega arith)))))
+      (λ v there. sym (ap (λ (e : Entry). e.1)
+          (old_entry p g history stands i v low (omega arith)))))
 
-  pub old_long : (v : ℕ) → v < vertices_of history → length (entry_at (rows_of history) i v).1 ≡ lanes p
+  pub old_long : (v : ℕ) → v < vertices_of history → length (entry_at (rows_of history) i v).1
+      ≡ lanes p
   old_long v there =
       let count = same_vertices p g history stands in
       let below : v < vertices g = omega arith in
@@ -144,18 +170,21 @@ module _ (p : ProgramEntries) (g h : Graph) (history : HistoryState) (t : PutTab
       sym (fill_by_all (λ v. (laid_at t.puts (rows_of history) i v).1) (row p h i) t.vertices []
       (w.each_vertex ∙ sym count)
       (λ v there. let below : v < vertices h = omega arith in
-      sym (ap (λ (e : Entry). e.1) (laid_entry p g h history t over is i v (refined v below) low below))))
+      sym (ap (λ (e : Entry). e.1) (laid_entry p g h history t over is i v (refined v below) low
+          below))))
 
   pub new_long : (v : ℕ) → v < t.vertices
       → length (laid_at t.puts (rows_of history) i v).1 ≡ lanes p
   new_long v there =
       let count = is.vertices in
       let below : v < vertices h = omega arith in
-      ap (λ (e : Entry). length e.1) (laid_entry p g h history t over is i v (refined v below) low below)
+      ap (λ (e : Entry). length e.1)
+          (laid_entry p g h history t over is i v (refined v below) low below)
       ∙ value_long p h i v below
 
   pub news_put : (v : ℕ) → t.old_vertices ≤ v → v < t.vertices → IsSome (put_at t.puts i v)
   news_put v past there =
       let count = is.vertices in
-      let olds : t.old_vertices ≡ vertices g = is.belongs.vertices ∙ same_vertices p g history is.stands in
+      let olds : t.old_vertices ≡ vertices g = is.belongs.vertices
+          ∙ same_vertices p g history is.stands in
       new_put p g h history t over is i v (refined v (omega arith)) (omega arith)

@@ -21,7 +21,8 @@ use bolt_base::{Memory, Touched};
 use std::alloc::Global;
 use vertex_expr::Program;
 
-// Whether a vertex is an old one whose value at the iteration before `i` is another one than it was.
+// Whether a vertex is an old one whose value at the iteration before `i` is another one than it
+// was.
 fn has_other_value<O: OldGraph, A: Adjacency>(
     program: &Program,
     graph: &A,
@@ -63,7 +64,8 @@ pub fn changed_vertices<O: OldGraph, A: Adjacency>(
         overlay.now i }
     requires some { 1 ≤ i }
     requires low { i ≤ history.now.cut + 1 }
-    ensures { IfOk result (λ us. us.items ≡ changed_values program.now O.graph (A.plain graph.now) i) }
+    ensures { IfOk result (λ us. us.items
+        ≡ changed_values program.now O.graph (A.plain graph.now) i) }
 {
     let mut us = Vec::new(alloc);
     for &u in overlay.vertices_at(i - 1) {

@@ -1,4 +1,5 @@
-use Rattle.std.proofs.Common.{◌≡◌, ◌-◌, ◌<◌, ◌≤◌, ◌+◌, ◌++◌, ℕ, Bool, true, false, List, [], ◌∷◌, cond, length, filter, get_or, take, ap, sym, ◌∙◌, subst, arith, refl}
+use Rattle.std.proofs.Common.{◌≡◌, ◌-◌, ◌<◌, ◌≤◌, ◌+◌, ◌++◌, ℕ, Bool, true, false, List, [], ◌∷◌}
+use Rattle.std.proofs.Common.{cond, length, filter, get_or, take, ap, sym, ◌∙◌, subst, arith, refl}
 use Rattle.bolt_base.specs.Graph.{Graph, vertices}
 use Rattle.vertex_expr.specs.declared.program.ProgramEntries.{ProgramEntries}
 use Rattle.run_model.specs.Steps.{step, value_changed}
@@ -7,7 +8,8 @@ use Rattle.refine_rows.specs.Progress.{again}
 use Rattle.refine_rows.proofs.AgainLemmas.{again_there, changed_where}
 use Rattle.refine_rows.proofs.PickLemmas.{picked_in, picked_out}
 use Rattle.refine_rows.proofs.dirty.changed_vertices.Goals as goal
-use Rattle.refine_rows.proofs.dirty.changed_vertices.Goals.{then-has_other_value+in_ok-push, else-has_other_value}
+use Rattle.refine_rows.proofs.dirty.changed_vertices.Goals.{then-has_other_value+in_ok-push}
+use Rattle.refine_rows.proofs.dirty.changed_vertices.Goals.{else-has_other_value}
 
 pub vertices_at-u-items-requires : goal.vertices_at-u-items-requires
 vertices_at-u-items-requires g c =
@@ -23,7 +25,8 @@ has_other_value-requires g c =
     let within = c.requires.refined.within in
     let some = c.requires.some in
     let is = c.vertices_at-u-items.ensures ∙ within.listed (c.args.i - 1) (omega arith) in
-    let there = again_there p was now (c.args.i - 1) c.vertices_at-u-items.result.now c.loop-u.u-index
+    let there = again_there p was now (c.args.i - 1) c.vertices_at-u-items.result.now
+        c.loop-u.u-index
     is c.loop-u-test.true in
     record {
       over = c.requires.over;
@@ -42,7 +45,8 @@ loop-u-preserved g c =
     let test = old_only was (value_changed (step p was now c.args.i)) in
     let xs : List ℕ = c.vertices_at-u-items.result.now in
     elim c.if-has_other_value.branch [
-      | then-has_other_value+in_ok-push w ↦ rw w.us-is (picked_in (λ (u : ℕ). u) test xs c.loop-u.u-index 0
+      | then-has_other_value+in_ok-push w ↦ rw w.us-is
+          (picked_in (λ (u : ℕ). u) test xs c.loop-u.u-index 0
           c.loop-u-test.true c.loop-u.us.items c.loop-u.invariant w.push.new.self.items
           (sym c.has_other_value.ensures ∙ w.if-has_other_value.true) w.in_ok-push.ensures.items)
       | else-has_other_value w ↦ rw w.us-is (picked_out (λ (u : ℕ). u) test xs c.loop-u.u-index 0
@@ -58,5 +62,6 @@ returns g c =
     let within = c.requires.refined.within in
     let some = c.requires.some in
     let is = c.vertices_at-u-items.ensures ∙ within.listed (c.args.i - 1) (omega arith) in
-    changed_where p was now c.args.i c.vertices_at-u-items.result.now c.loop-u.us.items c.loop-u.u-index
+    changed_where p was now c.args.i c.vertices_at-u-items.result.now c.loop-u.us.items
+        c.loop-u.u-index
     c.requires.over c.requires.some is c.loop-u-test.false c.loop-u.invariant

@@ -1,4 +1,5 @@
-use Rattle.std.proofs.Common.{◌≡◌, ◌<◌, ◌≤◌, ◌+◌, ◌&&◌, ℕ, Bool, true, false, not, List, [], ◌∷◌, ◌++◌, length, get_or, ap, sym, ◌∙◌, subst, arith}
+use Rattle.std.proofs.Common.{◌≡◌, ◌<◌, ◌≤◌, ◌+◌, ◌&&◌, ℕ, Bool, true, false, not, List, [], ◌∷◌}
+use Rattle.std.proofs.Common.{◌++◌, length, get_or, ap, sym, ◌∙◌, subst, arith}
 use Rattle.bolt_base.specs.Differs.{degree_changed}
 use Rattle.bolt_base.specs.Graph.{Graph, outdeg, vertices}
 use Rattle.bolt_base.specs.declared.edge.Touched.{Touched}
@@ -7,7 +8,8 @@ use Rattle.refine_rows.specs.Picked.{old_only}
 use Rattle.refine_rows.proofs.AgainLemmas.{degrees_where, touched_are}
 use Rattle.refine_rows.proofs.PickLemmas.{picked_in, picked_out, read_where, unread_where}
 use Rattle.refine_rows.proofs.dirty.degree_changes.Goals as goal
-use Rattle.refine_rows.proofs.dirty.degree_changes.Goals.{then-has_other_degree+in_ok-push, else-has_other_degree}
+use Rattle.refine_rows.proofs.dirty.degree_changes.Goals.{then-has_other_degree+in_ok-push}
+use Rattle.refine_rows.proofs.dirty.degree_changes.Goals.{else-has_other_degree}
 
 pub returns-then-not-reads_outdeg : goal.returns-then-not-reads_outdeg
 returns-then-not-reads_outdeg g c =
@@ -23,11 +25,11 @@ has_other_degree-requires g c =
     let now : Graph = g.A.Adjacency.plain c.args.graph.now in
     let xs : List Touched = c.as_slice-touched-items.result.now in
     let is = c.as_slice-touched-items.ensures ∙ c.requires.net.is_sources in
-    let t = touched_are was now xs c.loop-touched.touched-index c.touched-item.result is c.loop-touched-test.true in
-    let same = c.touched-item.is in
     record {
-      vertex = subst (λ (x : Touched). x.vertex < vertices now) (sym same) t.there;
-      degree = subst (λ (x : Touched). x.old_degree ≡ outdeg was x.vertex) (sym same) t.degree;
+      vertex = (touched_are was now xs c.loop-touched.touched-index _ is
+          c.loop-touched-test.true).there;
+      degree = (touched_are was now xs c.loop-touched.touched-index _ is
+          c.loop-touched-test.true).degree;
       old = c.requires.net.is_old_vertices;
     }
 
@@ -39,14 +41,15 @@ loop-touched-preserved g c =
     let xs : List Touched = c.as_slice-touched-items.result.now in
     elim c.if-has_other_degree.branch [
       | then-has_other_degree+in_ok-push w ↦ rw w.us-is
-          (picked_in (λ (t : Touched). t.vertex) test xs c.loop-touched.touched-index c.touched-item.result
-          c.loop-touched-test.true c.loop-touched.us.items c.loop-touched.invariant w.push.new.self.items
-          (ap (λ (t : Touched). test t.vertex) (sym c.touched-item.is) ∙ sym c.has_other_degree.ensures ∙ w.if-has_other_degree.true)
-          (w.in_ok-push.ensures.items ∙ ap (λ (t : Touched). c.loop-touched.us.items ++ t.vertex ∷ []) c.touched-item.is))
-      | else-has_other_degree w ↦ rw w.us-is
-          (picked_out (λ (t : Touched). t.vertex) test xs c.loop-touched.touched-index c.touched-item.result
+          (picked_in (λ (t : Touched). t.vertex) test xs c.loop-touched.touched-index _
           c.loop-touched-test.true c.loop-touched.us.items c.loop-touched.invariant
-          (ap (λ (t : Touched). test t.vertex) (sym c.touched-item.is) ∙ sym c.has_other_degree.ensures ∙ w.if-has_other_degree.false))
+              w.push.new.self.items
+          (sym c.has_other_degree.ensures ∙ w.if-has_other_degree.true)
+          w.in_ok-push.ensures.items)
+      | else-has_other_degree w ↦ rw w.us-is
+          (picked_out (λ (t : Touched). t.vertex) test xs c.loop-touched.touched-index _
+          c.loop-touched-test.true c.loop-touched.us.items c.loop-touched.invariant
+          (sym c.has_other_degree.ensures ∙ w.if-has_other_degree.false))
     ]
 
 pub returns : goal.returns
@@ -55,6 +58,7 @@ returns g c =
     let now : Graph = g.A.Adjacency.plain c.args.graph.now in
     let is = c.as_slice-touched-items.ensures ∙ c.requires.net.is_sources in
     degrees_where was now c.as_slice-touched-items.result.now c.loop-touched.us.items
-    c.loop-touched.touched-index c.requires.over.more is c.loop-touched-test.false c.loop-touched.invariant
+    c.loop-touched.touched-index c.requires.over.more is c.loop-touched-test.false
+        c.loop-touched.invariant
     ∙ sym (read_where (vertices was) (degree_changed was now) (reads_outdeg c.args.program.now)
     (sym c.reads_outdeg.ensures ∙ c.if-not-reads_outdeg.false))

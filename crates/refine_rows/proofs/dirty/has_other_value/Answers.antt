@@ -1,4 +1,5 @@
-use Rattle.std.proofs.Common.{◌≡◌, ◌-◌, ◌<◌, ℕ, ℤ, Bool, true, false, not, ◌&&◌, List, ap, sym, ◌∙◌, arith}
+use Rattle.std.proofs.Common.{◌≡◌, ◌-◌, ◌<◌, ℕ, ℤ, Bool, true, false, not, ◌&&◌, List, ap, sym, ◌∙◌}
+use Rattle.std.proofs.Common.{arith}
 use Rattle.std.specs.Cmp.Lexicographic.{pointwise}
 use Rattle.std.specs.Cmp.Rules.{signed_items}
 use Rattle.std.specs.Ordering.{int_eq}
@@ -21,6 +22,14 @@ returns-then-vertices-u g c =
     sym (ap (λ b. not b && value_changed (step p was now c.args.i) c.args.u)
     (is_le (vertices was) c.args.u (omega arith)))
 
+pub old_value-was-requires-clause-vertex : goal.old_value-was-requires-clause-vertex
+old_value-was-requires-clause-vertex g c =
+    let count = same_vertices c.args.program.now g.O.OldGraph.graph c.args.history.now
+    c.requires.laid.stands in
+    let some = c.vertices.ensures.count in
+    let past = c.if-vertices-u.false in
+    omega arith
+
 pub returns : goal.returns
 returns g c =
     let p : ProgramEntries = c.args.program.now in
@@ -30,6 +39,7 @@ returns g c =
     let b : List ℤ = at (row p now (c.args.i - 1)) c.args.u in
     let count = same_vertices p was c.args.history.now c.requires.laid.stands in
     let some = c.vertices.ensures.count in
+    let past = c.if-vertices-u.false in
     let there : c.args.u < vertices was = omega arith in
     let same : c.same.result ≡ pointwise int_eq a b = same_from_decides _ _
     (λ t. sym c.old_value-was.ensures ∙ c.same.ensures.0 t ∙ c.laid_value-now.ensures,

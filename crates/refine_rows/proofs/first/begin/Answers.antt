@@ -1,4 +1,5 @@
-use Rattle.std.proofs.Common.{◌≡◌, ◌<◌, ◌≤◌, ◌+◌, ℕ, List, [], ◌∷◌, length, get_or, map, ap, sym, ◌∙◌, arith, refl}
+use Rattle.std.proofs.Common.{◌≡◌, ◌<◌, ◌≤◌, ◌+◌, ℕ, List, [], ◌∷◌, length, get_or, map, ap, sym}
+use Rattle.std.proofs.Common.{◌∙◌, arith, refl}
 use Rattle.std.specs.Prelude.{slice_get}
 use Rattle.std.proofs.lemmas.Option.{slice_get-get_or}
 use Rattle.bolt_base.specs.Graph.{Graph}
@@ -13,7 +14,8 @@ use Rattle.refine_rows.proofs.first.begin.Goals as goal
 pub loop-v-init : goal.loop-v-init
 loop-v-init g c = record {
   within = c.requires.none.within;
-  count = ap (λ (round : Round). length (map (λ (put : ℕ × Entry). put.0) round)) c.requires.none.none;
+  count = ap (λ (round : Round). length (map (λ (put : ℕ × Entry). put.0) round))
+      c.requires.none.none;
 }
 
 pub put_first-requires : goal.put_first-requires
@@ -36,7 +38,8 @@ pub loop-v-preserved : goal.loop-v-preserved
 loop-v-preserved g c = record {
   within = c.in_ok-put_first.ensures.within;
   count = ap length c.in_ok-put_first.ensures.put
-      ∙ length_with_one (vertices_put c.loop-v.overlay 0) (get_or c.deref-v-items.result.now c.loop-v.v-index 0)
+      ∙ length_with_one (vertices_put c.loop-v.overlay 0)
+          (get_or c.deref-v-items.result.now c.loop-v.v-index 0)
       ∙ ap (λ (n : ℕ). n + 1) c.loop-v.invariant.count;
 }
 

@@ -1,4 +1,5 @@
-use Rattle.std.proofs.Common.{◌≡◌, ◌<◌, ◌≤◌, ℕ, ℤ, pos, List, length, replicate, ap, sym, ◌∙◌, subst, arith}
+use Rattle.std.proofs.Common.{◌≡◌, ◌<◌, ◌≤◌, ℕ, ℤ, pos, List, length, replicate, ap, sym, ◌∙◌}
+use Rattle.std.proofs.Common.{subst, arith}
 use Rattle.std.proofs.lemmas.List.{length-replicate}
 use Rattle.bolt_base.specs.Graph.{Graph, vertices}
 use Rattle.bolt_base.specs.Keep.{Entry}
@@ -24,7 +25,8 @@ put-requires g c =
     let now : Graph = g.A.Adjacency.plain c.args.graph.now in
     let t : PutTable = c.args.overlay.now in
     let laid = c.requires.within.laid in
-    let there = vertex_there p was now c.args.history.now t 0 c.args.v c.requires.within c.requires.next in
+    let there = vertex_there p was now c.args.history.now t 0 c.args.v c.requires.within
+        c.requires.next in
     let count = laid.vertices in
     let wide = laid.belongs.lanes ∙ laid.stands.lanes in
     let len : c.len.result ≡ lanes p = c.len.ensures
@@ -32,7 +34,8 @@ put-requires g c =
     record {
       iteration = omega arith;
       vertex = omega arith;
-      agg = ap length c.zeros-zeros.ensures ∙ length-replicate c.len.result (pos 0) ∙ len ∙ sym wide;
+      agg = ap length c.zeros-zeros.ensures ∙ length-replicate c.len.result (pos 0) ∙ len
+          ∙ sym wide;
       val = ap length c.first_value-value.ensures.value ∙ length-by_lane p _ ∙ sym wide;
       once = not_put p was now c.args.history.now t 0 c.args.v c.requires.within c.requires.next;
     }
@@ -43,11 +46,13 @@ returns g c =
     let was : Graph = g.O.OldGraph.graph in
     let now : Graph = g.A.Adjacency.plain c.args.graph.now in
     let t : PutTable = c.args.overlay.now in
-    let there = vertex_there p was now c.args.history.now t 0 c.args.v c.requires.within c.requires.next in
+    let there = vertex_there p was now c.args.history.now t 0 c.args.v c.requires.within
+        c.requires.next in
     let len : c.len.result ≡ lanes p = c.len.ensures
     ∙ ap (λ (x : ProgramEntries). length x.ranges) c.entries.ensures.entries in
     let e : Entry = (c.zeros-zeros.result, c.first_value-value.result) in
-    let made = first_made p was now c.requires.over c.args.v there c.zeros-zeros.result c.first_value-value.result
+    let made = first_made p was now c.requires.over c.args.v there c.zeros-zeros.result
+        c.first_value-value.result
     (c.zeros-zeros.ensures ∙ ap (λ n. replicate n (pos 0)) len) c.first_value-value.ensures.value in
     let more = put_made p was now c.args.history.now t 0 c.args.v c.requires.within c.requires.next
     e (omega arith) made c.put.new.self c.in_ok-put.ensures.ok c.in_ok-put.ensures.found in

@@ -1,4 +1,5 @@
-use Rattle.std.proofs.Common.{rules, ◌≡◌, ◌<◌, ◌+◌, ◌≤◌, ℕ, ℤ, length, FitsSigned, w64, sym, ap, ◌∙◌, subst, arith}
+use Rattle.std.proofs.Common.{rules, ◌≡◌, ◌<◌, ◌+◌, ◌≤◌, ℕ, ℤ, length, FitsSigned, w64, sym, ap}
+use Rattle.std.proofs.Common.{◌∙◌, subst, arith}
 use Rattle.std.proofs.lemmas.Int.{to_z-of_z}
 use Rattle.bolt_base.specs.Graph.{Graph, vertices}
 use Rattle.bolt_base.specs.Keep.{Entry}
@@ -45,7 +46,8 @@ loop-lane-preserved g c =
     let small : lane < lanes p = let test = c.loop-lane-test.true in omega arith in
     let is : c.agg.result ≡ f lane = c.agg.ensures
     ∙ ap (λ (e : Entry). number e.0 lane)
-    (old_entry p was c.args.history.now c.requires.stands c.args.i c.args.v c.requires.iteration there) in
+    (old_entry p was c.args.history.now c.requires.stands c.args.i c.args.v c.requires.iteration
+        there) in
     let fits : FitsSigned w64 c.agg.result = search rules in
     subst (IsSoFar f (lanes p) (lane + 1)) (sym c.set.ensures)
     (one_more f (lanes p) lane c.loop-lane.agg _ c.loop-lane.invariant small
@@ -66,4 +68,5 @@ returns g c =
     there c.loop-lane.invariant (omega arith)
     ∙ sym (had_old p was c.args.history.now c.requires.stands c.args.i c.args.v there
     ∙ ap (λ (e : Entry). e.0)
-    (old_entry p was c.args.history.now c.requires.stands c.args.i c.args.v c.requires.iteration there))
+    (old_entry p was c.args.history.now c.requires.stands c.args.i c.args.v c.requires.iteration
+        there))

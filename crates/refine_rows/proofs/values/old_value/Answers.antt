@@ -1,4 +1,5 @@
-use Rattle.std.proofs.Common.{rules, ◌≡◌, ◌<◌, ◌+◌, ℕ, ℤ, length, FitsSigned, w64, sym, ap, ◌∙◌, subst, arith}
+use Rattle.std.proofs.Common.{rules, ◌≡◌, ◌<◌, ◌+◌, ℕ, ℤ, length, FitsSigned, w64, sym, ap, ◌∙◌}
+use Rattle.std.proofs.Common.{subst, arith}
 use Rattle.std.proofs.lemmas.Int.{to_z-of_z}
 use Rattle.bolt_base.specs.Graph.{Graph}
 use Rattle.bolt_base.specs.Keep.{Entry}
@@ -33,7 +34,8 @@ loop-lane-preserved g c =
     let small : lane < lanes p = let test = c.loop-lane-test.true in omega arith in
     let is : c.val.result ≡ f lane = c.val.ensures
     ∙ ap (λ (e : Entry). number e.1 lane)
-    (old_entry p was c.args.history.now c.requires.stands c.args.i c.args.v c.requires.iteration c.requires.vertex) in
+    (old_entry p was c.args.history.now c.requires.stands c.args.i c.args.v c.requires.iteration
+        c.requires.vertex) in
     let fits : FitsSigned w64 c.val.result = search rules in
     subst (IsSoFar f (lanes p) (lane + 1)) (sym c.set.ensures)
     (one_more f (lanes p) lane c.loop-lane.value _ c.loop-lane.invariant small
