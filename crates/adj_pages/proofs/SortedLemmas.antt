@@ -1,19 +1,11 @@
 -- Parts of what is sorted.
-use Rattle.std.proofs.Common.{◌≡◌, ℕ, zero, suc, ◌+◌, ◌-◌, ◌<◌, ◌≤◌, T, Bool, true, false, ◌&&◌, List, [], ◌∷◌, ◌++◌, length, get_or, take, drop, refl, sym, ap, ◌∙◌, subst, arith}
+use Rattle.std.proofs.Common.{◌≡◌, ℕ, zero, suc, ◌+◌, ◌<◌, ◌≤◌, T, List, [], ◌∷◌, ◌++◌, length, get_or, take, drop, refl, sym, ap, ◌∙◌, subst, arith}
 use Rattle.std.specs.Ordering.{nat_cmp, is_lt}
 use Rattle.std.specs.List.{All}
 use Rattle.std.specs.FinMap.Entries.{is_sorted, below_all}
 use Rattle.std.proofs.lemmas.List.{take-append-drop}
 use Rattle.std.proofs.lemmas.List.Elements.{All-nil, All-cons}
-use Rattle.adjacency.proofs.RowLemmas.{under}
-
-both : (a b : Bool) → T (a && b) → T a × T b
-both true b h = (tt, h)
-both false b h = absurd h
-
-join : (a b : Bool) → T a → T b → T (a && b)
-join true b p q = q
-join false b p q = absurd p
+use Rattle.bolt_base.proofs.SortedKeys.{both, join, under}
 
 below_prefix : {X : Type 0} (k : ℕ) (xs ys : List (ℕ × X)) → T (below_all nat_cmp k (xs ++ ys)) → T (below_all nat_cmp k xs)
 below_prefix k [] ys h = tt
