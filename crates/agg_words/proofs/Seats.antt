@@ -1,6 +1,6 @@
 -- A fresh table meets the rule, and a split and a join of seats keep it.
-use Rattle.std.proofs.Common.{◌≡◌, ◌≢◌, ℕ, zero, suc, ◌+◌, ◌/◌, ◌%◌, ◌^◌, ◌<◌, ◌≤◌, List, [], ◌∷◌}
-use Rattle.std.proofs.Common.{◌++◌, get_or, set, sym, refl, ap, ◌∙◌, arith}
+use Rattle.std.proofs.Common.{◌≡◌, ◌≢◌, ℕ, ◌+◌, ◌/◌, ◌%◌, ◌^◌, ◌<◌, ◌≤◌, List, [], ◌∷◌}
+use Rattle.std.proofs.Common.{◌++◌, set, sym, refl, ap, ◌∙◌, arith}
 use Rattle.std.proofs.Math.ListN.{replicate, length-replicate}
 use Rattle.std.specs.Int.{bit_at}
 use Rattle.std.specs.Prelude.{All}

@@ -1,5 +1,5 @@
 -- The programs of the tests are programs.
-use Rattle.std.proofs.Common.{ℕ, ℤ, pos, ◌≤◌, ◌≤ℤ◌, [], ◌∷◌, refl, arith, rules, lit<, lit≤}
+use Rattle.std.proofs.Common.{ℕ, ℤ, pos, ◌≤◌, ◌≤ℤ◌, refl, arith, rules, lit<, lit≤}
 use Rattle.std.proofs.Common.{FitsSigned, w64}
 use Rattle.std.proofs.lemmas.Int.{ints}
 use Rattle.std.proofs.lemmas.List.Elements.{All-nil}

@@ -1,7 +1,7 @@
 -- The edges that are read out of some vertices, or into them, among all edges.
 use Rattle.std.proofs.Common.{◌≡◌, ℕ, zero, suc, ◌+◌, ◌-◌, ◌*◌, ◌<◌, ◌≤◌, Bool, true, false, not}
-use Rattle.std.proofs.Common.{◌&&◌, ◌||◌, cond, eqb, List, [], ◌∷◌, ◌++◌, filter, length, refl, sym}
-use Rattle.std.proofs.Common.{ap, ◌∙◌, subst, arith, inl, inr}
+use Rattle.std.proofs.Common.{◌&&◌, ◌||◌, cond, eqb, List, [], ◌∷◌, filter, length, refl, sym}
+use Rattle.std.proofs.Common.{ap, ◌∙◌, arith, inl, inr}
 use Rattle.std.specs.Prelude.{sum_by}
 use Rattle.std.specs.List.{All, AllByRecursion, range_with_len}
 use Rattle.std.proofs.lemmas.Bool.{eq-eqb, ne_eqb, cases_eq}
@@ -12,12 +12,12 @@ use Rattle.bolt_base.specs.declared.edge.Edge.{Edge}
 use Rattle.vertex_expr.specs.declared.program.Combine.TheVariants.{Sum}
 use Rattle.vertex_expr.specs.declared.program.ProgramEntries.{ProgramEntries}
 use Rattle.run_model.specs.Program.{is_sum}
-use Rattle.run_model.specs.Steps.{Step, step, is_new, is_dirty, dirty, is_target, is_active, active}
+use Rattle.run_model.specs.Steps.{Step, step, is_dirty, is_target, is_active, active}
 use Rattle.run_model.specs.Steps.{is_tail_target, value_changed, degree_changed, attr_changed}
 use Rattle.run_model.specs.Steps.{reads_outdeg, reads_attr}
 use Rattle.run_model.specs.VisitLaws.{AreRead}
 use Rattle.run_model.specs.Visits.{in_visits, out_visits, sum_visits, pull_visits, tail_pull_visits}
-use Rattle.run_model.specs.Visits.{tail_sum_visits, step_visits, tail_step_visits, refine_visits}
+use Rattle.run_model.specs.Visits.{tail_sum_visits, step_visits, tail_step_visits}
 use Rattle.run_model.specs.Visits.{tail_visits, visits, degrees, changed}
 use Rattle.bolt_base.proofs.Degrees.{all_keys, sum_by-plus, sum_by-same}
 use Rattle.run_model.proofs.Iteration.{new_is}

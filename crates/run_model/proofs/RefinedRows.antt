@@ -1,14 +1,13 @@
 -- Entries that are put over old rows make the new rows, iteration after iteration.
 use Rattle.std.proofs.Common.{◌≡◌, ℕ, ℤ, pos, zero, suc, ◌+◌, ◌-◌, ◌<◌, ◌≤◌, ◌+ℤ◌, Bool, true}
-use Rattle.std.proofs.Common.{false, ◌||◌, cond, List, [], Option, Some, None, length, get_or, map}
-use Rattle.std.proofs.Common.{refl, sym, ap, ◌∙◌, subst, arith, inl, inr, FitsSigned, w64}
+use Rattle.std.proofs.Common.{false, ◌||◌, cond, List, [], Option, Some, None, length, get_or}
+use Rattle.std.proofs.Common.{refl, sym, ap, ◌∙◌, subst, arith, inl, inr, w64}
 use Rattle.std.specs.Prelude.{unwrap_or}
 use Rattle.std.specs.Int.{cast_signed, int_wrap}
-use Rattle.std.specs.List.{range_with_len}
 use Rattle.std.proofs.lemmas.Bool.{cases_lt, cases_eq}
 use Rattle.std.proofs.lemmas.List.FromFn.{fill_by_all, get_or-map-range_with_len}
 use Rattle.bolt_base.specs.Graph.{Graph, IsGood, vertices}
-use Rattle.bolt_base.specs.Keep.{Entry, Row, no_entry}
+use Rattle.bolt_base.specs.Keep.{Entry, no_entry}
 use Rattle.bolt_base.specs.Residue.{sum_at}
 use Rattle.bolt_base.specs.RowTable.{entry_at}
 use Rattle.vertex_expr.specs.declared.program.Combine.{Combine}
@@ -24,7 +23,7 @@ use Rattle.run_model.specs.Refined.{is_again, IsRefined, AreRefined, tail_seen, 
 use Rattle.run_model.specs.Refined.{value_again, values_again, AreTailRows}
 use Rattle.run_model.specs.RefineLaws.{LeadOn}
 use Rattle.run_model.specs.Rows.{Lists, at, row, aggr, agg_at, begun, gathered, applied}
-use Rattle.run_model.specs.Rows.{each_vertex, entry, entries, rows_to}
+use Rattle.run_model.specs.Rows.{entry, entries, rows_to}
 use Rattle.run_model.specs.Steps.{Step, step, tail_step, is_new, is_target, is_applied, is_begun}
 use Rattle.run_model.specs.Steps.{value_changed, attr_changed, old_agg, is_tail_target, is_active}
 use Rattle.run_model.proofs.InRange.{at_lane, at_vertex, length-by_lane}

@@ -3,7 +3,6 @@ use Rattle.std.proofs.Common.{◌≡◌, ℕ, ℤ, pos, zero, suc, ◌<◌, ◌�
 use Rattle.std.proofs.Common.{rules, slice_index_or, neg_ℤ, Some, None, lit<, lit≤}
 use Rattle.std.proofs.lemmas.Int.{ints}
 use Rattle.std.proofs.lemmas.List.Elements.{All-nil}
-use Rattle.std.specs.List.{All}
 use Rattle.vertex_expr.proofs.NodeLemmas.{all_of_one}
 use Rattle.vertex_expr.specs.declared.expr.Part.TheVariants.{Init, Contribute, Apply}
 use Rattle.vertex_expr.specs.declared.program.LaneRange.{LaneRange}
@@ -13,7 +12,7 @@ use Rattle.vertex_expr.specs.Safe.{break_at, IsKnown, IsSafeNode, IsSafe, IsEval
 use Rattle.vertex_expr.specs.Samples.{share, damped, rank, mixed, around}
 use Rattle.vertex_expr.specs.Samples.{hand_bounds}
 use Rattle.vertex_expr.specs.Span.{Span, only, IsIn, AreIn}
-use Rattle.vertex_expr.specs.Tree.{Tree, literal, weight, attr, id, agg, old}
+use Rattle.vertex_expr.specs.Tree.{Tree, literal, weight, attr, id, old}
 use Rattle.vertex_expr.specs.Writable.{IsWithin, IsRange, IsTextTree, IsWritable, scope_in}
 
 pub is_within : (lo hi n : ℕ) → lo ≤ n → n ≤ hi → IsWithin lo hi n

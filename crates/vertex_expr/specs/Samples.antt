@@ -3,8 +3,8 @@ use Rattle.std.specs.Prelude.{ℤ, pos, neg_ℤ, [], ◌∷◌, codes, Some, Non
 use Rattle.vertex_expr.specs.Box.{Bounds}
 use Rattle.vertex_expr.specs.Span.{Span}
 use Rattle.vertex_expr.specs.Tree.{Tree, literal, val, outdeg, weight, attr, id, agg, old, plus}
-use Rattle.vertex_expr.specs.Tree.{minus, times, over, least, greatest, clamp, choose}
-use Rattle.vertex_expr.specs.declared.expr.Compare.TheVariants.{Less, AtMost, Equal}
+use Rattle.vertex_expr.specs.Tree.{minus, times, over, least, clamp, choose}
+use Rattle.vertex_expr.specs.declared.expr.Compare.TheVariants.{AtMost}
 use Rattle.vertex_expr.specs.declared.program.Combine.TheVariants.{Sum}
 use Rattle.vertex_expr.specs.declared.program.ProgramEntries.{ProgramEntries}
 

@@ -1,11 +1,9 @@
-use Rattle.std.proofs.Common.{rules, ◌≡◌, ◌<◌, ℕ, ℤ, pos, List, [], length, get_or, replicate, map}
+use Rattle.std.proofs.Common.{rules, ◌≡◌, ℕ, ℤ, pos, List, [], length, get_or, replicate}
 use Rattle.std.proofs.Common.{sym, ap, ◌∙◌, subst, arith, FitsSigned, w64, to_z, of_z}
-use Rattle.std.specs.List.{range_with_len}
 use Rattle.std.proofs.lemmas.Int.{to_z-of_z}
 use Rattle.std.proofs.lemmas.List.{get_or_read}
-use Rattle.std.proofs.lemmas.List.FromFn.{length-map-range_with_len, get_or-map-range_with_len}
 use Rattle.bolt_base.specs.Change.{attr_at}
-use Rattle.bolt_base.specs.Graph.{Graph, vertices, outdeg}
+use Rattle.bolt_base.specs.Graph.{Graph, outdeg}
 use Rattle.bolt_base.specs.declared.edge.Edge.{Edge}
 use Rattle.vertex_expr.specs.Meaning.{ev}
 use Rattle.vertex_expr.specs.declared.program.ProgramEntries.{ProgramEntries}

@@ -1,13 +1,10 @@
 use Rattle.std.specs.List.{range_with_len}
-use Rattle.std.proofs.Common.{rules, ◌≡◌, ℤ, [], map, ap, ◌∙◌, sym, subst, arith, length}
-use Rattle.std.proofs.Common.{FitsSigned, w64}
-use Rattle.std.proofs.lemmas.Int.{to_z-of_z}
+use Rattle.std.proofs.Common.{◌≡◌, [], map, ap, ◌∙◌, subst, arith, length}
 use Rattle.std.proofs.lemmas.List.{get_or_read}
 use Rattle.std.proofs.lemmas.List.FromFn.{length-map-range_with_len}
 use Rattle.bolt_base.specs.Graph.{Graph, vertices}
 use Rattle.vertex_expr.specs.declared.program.ProgramEntries.{ProgramEntries}
-use Rattle.run_model.specs.Evaluable.{AreEvaluable}
-use Rattle.run_model.specs.Rows.{Lists, contribute_env}
+use Rattle.run_model.specs.Rows.{Lists}
 use Rattle.run_model.specs.Given.{AreGiven, source_gives}
 use Rattle.run_model.proofs.GivenLemmas.{edge_evaluable, given_at}
 use Rattle.run_model.proofs.given.edge_gives.Goals as goal

@@ -1,4 +1,4 @@
-use Rattle.std.proofs.Common.{rules, ◌≡◌, ◌≢◌, ◌≤◌, ℕ, ℤ, pos, List, cond, length, get_or}
+use Rattle.std.proofs.Common.{rules, ◌≡◌, ◌≢◌, ◌≤◌, ℕ, ℤ, pos, cond, length, get_or}
 use Rattle.std.proofs.Common.{replicate, ap, ◌∙◌, sym, subst, arith, FitsSigned, w64, to_z, of_z}
 use Rattle.std.proofs.lemmas.Bool.{eq-eqb, ne_eqb}
 use Rattle.std.proofs.lemmas.Int.{to_z-of_z}
