@@ -1,6 +1,7 @@
 -- There is a place for each vertex that is marked.
 use Rattle.std.proofs.Common.{◌≡◌, ℕ, ◌+◌, ◌<◌, ◌≤◌, List, [], ◌∷◌, ◌++◌, length, take, set, sym}
-use Rattle.std.proofs.Common.{ap, ◌∙◌, subst, arith, length-append, append_assoc, append-nil, length-take, length-set, add-one}
+use Rattle.std.proofs.Common.{ap, ◌∙◌, subst, arith, length-append, append_assoc, append-nil}
+use Rattle.std.proofs.Common.{length-take, length-set, add-one}
 use Rattle.std.specs.List.{All}
 use Rattle.std.proofs.Math.Seq.{take-suc-set}
 use Rattle.std.proofs.lemmas.List.Elements.{All-append, All-cons, All-nil}
@@ -22,12 +23,14 @@ place_left k v w dst count targets h is once =
     let n : ℕ = h.vertices in
     let m = h.marked in
     let ts : List ℕ = take count targets in
-    let all : All (λ (b : ℕ). b < n) (ts ++ dst ∷ []) = All-append (λ (b : ℕ). b < n) ts (dst ∷ []) m.below (one_below n dst h.there) in
+    let all : All (λ (b : ℕ). b < n) (ts ++ dst ∷ []) = All-append (λ (b : ℕ). b < n) ts (dst ∷ [])
+    m.below (one_below n dst h.there) in
     let few = few_bits n (ts ++ dst ∷ []) all (λ b.
-        let one = once.once b in
-        let whole = ap (times b) (is ∙ ap (λ l. l ++ dst ∷ []) m.marks ∙ append_assoc m.others ts (dst ∷ [])) in
-        let parts = times-append b m.others (ts ++ dst ∷ []) in
-        omega arith) in
+    let one = once.once b in
+    let whole = ap (times b) (is ∙ ap (λ l. l ++ dst ∷ []) m.marks
+    ∙ append_assoc m.others ts (dst ∷ [])) in
+    let parts = times-append b m.others (ts ++ dst ∷ []) in
+    omega arith) in
     let long = length-append ts (dst ∷ []) in
     let front = length-take count targets in
     let inside = m.inside in
@@ -38,16 +41,19 @@ pub marked_more : (n : ℕ) (v w : View) (dst count : ℕ) (targets : List ℕ)
     → AreMarked n v count targets → dst < n → w.marks ≡ v.marks ++ dst ∷ []
     → count < length targets → AreMarked n w (count + 1) (set targets count dst)
 marked_more n v w dst count targets m there is h =
-    let next : take (count + 1) (set targets count dst) ≡ take count targets ++ dst ∷ [] = rw add-one (take-suc-set targets count dst h) in
+    let next : take (count + 1) (set targets count dst) ≡ take count targets
+    ++ dst ∷ [] = rw add-one (take-suc-set targets count dst h) in
     let long = length-set targets count dst in
     record {
       inside = omega arith;
       others = m.others;
       marks =
-          is ∙ ap (λ l. l ++ dst ∷ []) m.marks ∙ append_assoc m.others (take count targets) (dst ∷ [])
+          is ∙ ap (λ l. l ++ dst ∷ []) m.marks
+          ∙ append_assoc m.others (take count targets) (dst ∷ [])
           ∙ ap (λ l. m.others ++ l) (sym next);
       below = subst (All (λ (b : ℕ). b < n)) (sym next)
-          (All-append (λ (b : ℕ). b < n) (take count targets) (dst ∷ []) m.below (one_below n dst there));
+          (All-append (λ (b : ℕ). b < n) (take count targets) (dst ∷ []) m.below
+          (one_below n dst there));
     }
 
 pub marked_same : (n : ℕ) (v w : View) (count : ℕ) (targets : List ℕ)

@@ -31,7 +31,9 @@ use Rattle.edge_map.proofs.Unadded.{filter_alike, walk_is_filter}
 pub pair_before : (p q : Pair) → T (is_lt (pair_cmp p q))
     → (p.0 < q.0) ⊎ ((p.0 ≡ q.0) × (p.1 < q.1))
 pair_before p q h =
-    elim (nat_cmp p.0 q.0) as (λ r. nat_cmp p.0 q.0 ≡ r → T (is_lt (ordering_then r (nat_cmp p.1 q.1))) → (p.0 < q.0) ⊎ ((p.0 ≡ q.0) × (p.1 < q.1))) [
+    elim (nat_cmp p.0 q.0) as (λ r. nat_cmp p.0 q.0 ≡ r
+    → T (is_lt (ordering_then r (nat_cmp p.1 q.1)))
+    → (p.0 < q.0) ⊎ ((p.0 ≡ q.0) × (p.1 < q.1))) [
       | Less ↦ λ e _. inl (ranked p.0 q.0 Less (sym e))
       | Equal ↦ λ e t. inr (ranked p.0 q.0 Equal (sym e), under p.1 q.1 t)
       | Greater ↦ λ e t. absurd t
@@ -43,18 +45,23 @@ rises_at : (xs : List Source) (i j : ℕ) (d : Source) → SourcesRise xs → i 
 rises_at [] i j d s l h = absurd (omega arith)
 rises_at (x ∷ xs) i zero d s l h = absurd (omega arith)
 rises_at (x ∷ xs) zero (suc j) d s l h =
-    let b = both (below_all nat_cmp x.vertex (map (λ y. (y.vertex, y)) xs)) (is_sorted nat_cmp (map (λ y. (y.vertex, y)) xs)) s in
+    let b = both (below_all nat_cmp x.vertex (map (λ y. (y.vertex, y)) xs))
+    (is_sorted nat_cmp (map (λ y. (y.vertex, y)) xs)) s in
     lower xs j b.0 (omega arith)
   where
-    lower : (ys : List Source) (k : ℕ) → T (below_all nat_cmp x.vertex (map (λ y. (y.vertex, y)) ys))
+    lower : (ys : List Source) (k : ℕ)
+        → T (below_all nat_cmp x.vertex (map (λ y. (y.vertex, y)) ys))
         → k < length ys → x.vertex < (get_or ys k d).vertex
     lower [] k t h = absurd (omega arith)
     lower (y ∷ ys) zero t h =
-        under x.vertex y.vertex (both (is_lt (nat_cmp x.vertex y.vertex)) (below_all nat_cmp x.vertex (map (λ z. (z.vertex, z)) ys)) t).0
+        under x.vertex y.vertex (both (is_lt (nat_cmp x.vertex y.vertex))
+        (below_all nat_cmp x.vertex (map (λ z. (z.vertex, z)) ys)) t).0
     lower (y ∷ ys) (suc k) t h =
-        lower ys k (both (is_lt (nat_cmp x.vertex y.vertex)) (below_all nat_cmp x.vertex (map (λ z. (z.vertex, z)) ys)) t).1 (omega arith)
+        lower ys k (both (is_lt (nat_cmp x.vertex y.vertex))
+        (below_all nat_cmp x.vertex (map (λ z. (z.vertex, z)) ys)) t).1 (omega arith)
 rises_at (x ∷ xs) (suc i) (suc j) d s l h =
-    let b = both (below_all nat_cmp x.vertex (map (λ y. (y.vertex, y)) xs)) (is_sorted nat_cmp (map (λ y. (y.vertex, y)) xs)) s in
+    let b = both (below_all nat_cmp x.vertex (map (λ y. (y.vertex, y)) xs))
+    (is_sorted nat_cmp (map (λ y. (y.vertex, y)) xs)) s in
     rises_at xs i j d b.1 (omega arith) (omega arith)
 
 -- so there are no more sources than vertices
@@ -99,11 +106,11 @@ module _ (t : Tasks) (rise : SourcesRise t.sources) where
       → EdgesFrom x.source (x.edge.dst + 1) ys
   behind x [] p ps h = tt
   behind x (y ∷ ys) p ps h =
-      let b = both (is_lt (pair_cmp (x.edge.src, x.edge.dst) (y.edge.src, y.edge.dst))) (below_all pair_cmp (x.edge.src, x.edge.dst) (map (λ z. entry z.edge) ys)) h in
+      let b = both (is_lt (pair_cmp (x.edge.src, x.edge.dst) (y.edge.src, y.edge.dst)))
+      (below_all pair_cmp (x.edge.src, x.edge.dst) (map (λ z. entry z.edge) ys)) h in
       let order = pair_before (x.edge.src, x.edge.dst) (y.edge.src, y.edge.dst) b.0 in
       let a = p.source in
-      let c = ps.0.source in
-      (
+      let c = ps.0.source in (
         elim order [
           | inl low ↦ (
             place_order x.source y.source p.place ps.0.place (omega arith),
@@ -121,10 +128,16 @@ module _ (t : Tasks) (rise : SourcesRise t.sources) where
       → EdgesFrom k a xs → MineFrom k a xs
   mine k a [] s p f = tt
   mine k a (x ∷ xs) s p f =
-      let b = both (below_all pair_cmp (x.edge.src, x.edge.dst) (map (λ y. entry y.edge) xs)) (is_sorted pair_cmp (map (λ y. entry y.edge) xs)) s in
+      let b = both (below_all pair_cmp (x.edge.src, x.edge.dst) (map (λ y. entry y.edge) xs))
+      (is_sorted pair_cmp (map (λ y. entry y.edge) xs)) s in
       let rest = behind x xs p.0 p.1 b.0 in
       elim (cases_eq x.source k) [
-        | inl e ↦ inl (e, f.0.1 e, mine k (x.edge.dst + 1) xs b.1 p.1 (subst (λ i. EdgesFrom i (x.edge.dst + 1) xs) e rest))
+        | inl e ↦ inl (
+          e,
+          f.0.1 e,
+          mine k (x.edge.dst + 1) xs b.1 p.1
+              (subst (λ i. EdgesFrom i (x.edge.dst + 1) xs) e rest),
+        )
         | inr apart ↦ let l = f.0.0 in inr (omega arith, later xs rest (omega arith))
       ]
     where
@@ -138,11 +151,16 @@ module _ (t : Tasks) (rise : SourcesRise t.sources) where
       → MineFrom k 0 (from_source k xs)
   from_is_mine k [] s p = tt
   from_is_mine k (x ∷ xs) s p =
-      let b = both (below_all pair_cmp (x.edge.src, x.edge.dst) (map (λ y. entry y.edge) xs)) (is_sorted pair_cmp (map (λ y. entry y.edge) xs)) s in
+      let b = both (below_all pair_cmp (x.edge.src, x.edge.dst) (map (λ y. entry y.edge) xs))
+      (is_sorted pair_cmp (map (λ y. entry y.edge) xs)) s in
       elim (cases_lt x.source k) [
         | inl low ↦ rw (lt-ltb x.source k low) (from_is_mine k xs b.1 p.1)
         | inr past ↦ rw (le-ltb x.source k past)
-            (mine k 0 (x ∷ xs) s p ((past, λ _. omega arith), loosen xs (behind x xs p.0 p.1 b.0) past))
+            (mine k 0 (x ∷ xs) s p (
+              (past, λ _. omega arith),
+              loosen xs (behind x xs p.0 p.1 b.0)
+                  past,
+            ))
       ]
     where
       loosen : (ys : List TaskEdge) → EdgesFrom x.source (x.edge.dst + 1) ys → k ≤ x.source
@@ -165,7 +183,8 @@ from_has k dst [] = refl
 from_has k dst (x ∷ xs) = elim (cases_lt x.source k) [
   | inl low ↦
       rw (lt-ltb x.source k low)
-      (ap (λ b. (b && eqb x.edge.dst dst) || has_mine k xs dst) (ne_eqb x.source k (λ q. omega arith))
+      (ap (λ b. (b && eqb x.edge.dst dst) || has_mine k xs dst)
+      (ne_eqb x.source k (λ q. omega arith))
       ∙ from_has k dst xs)
   | inr past ↦ rw (le-ltb x.source k past) refl
 ]
@@ -180,8 +199,7 @@ below_ends : (k : Pair) (es : List (Pair × ℤ)) → T (below_all pair_cmp k es
     → AllByRecursion (λ (f : Pair × ℤ). f.0.0 ≡ k.0 → k.1 + 1 ≤ f.0.1) es
 below_ends k [] h = tt
 below_ends k (e ∷ es) h =
-    let b = both (is_lt (pair_cmp k e.0)) (below_all pair_cmp k es) h in
-    (
+    let b = both (is_lt (pair_cmp k e.0)) (below_all pair_cmp k es) h in (
       λ same. elim (pair_before k e.0 b.0) [
         | inl low ↦ absurd (omega arith)
         | inr even ↦ let d = even.1 in omega arith
@@ -224,7 +242,8 @@ end_found u d (e ∷ es) = elim (cases_eq e.0.0 u) [
       (λ j. (end_test e.0.1 d ∙ sym (same_src u d e.0.0 e.0.1 (sym same))) j || end_found u d es j)
   | inr apart ↦
       rw (ne_eqb e.0.0 u apart)
-      (end_found u d es ∙ ap (λ b. b || list_any (eq_by_cmp pair_cmp (u, d)) (map (λ f. f.0) es)) (sym (other_src u d e.0.0 e.0.1 (λ q. apart (sym q)))))
+      (end_found u d es ∙ ap (λ b. b || list_any (eq_by_cmp pair_cmp (u, d)) (map (λ f. f.0) es))
+      (sym (other_src u d e.0.0 e.0.1 (λ q. apart (sym q)))))
 ]
 
 -- an edge of the graph is among those out of its source
@@ -259,12 +278,11 @@ module _ (p : ProgramEntries) (g : Graph) (t : Tasks) (agrees : AgreesWith p g t
       → AllByRecursion (λ x. HasEdge g x.edge) xs
       → AreAmong k (out_edges g (source_at t k).vertex) xs
   are_among k [] ps hs = tt
-  are_among k (x ∷ xs) ps hs =
-      (
-        λ e. edge_ends g x.edge (source_at t k).vertex hs.0
-            (ap (λ i. (source_at t i).vertex) (sym e) ∙ ps.0.source),
-        are_among k xs ps.1 hs.1,
-      )
+  are_among k (x ∷ xs) ps hs = (
+    λ e. edge_ends g x.edge (source_at t k).vertex hs.0
+        (ap (λ i. (source_at t i).vertex) (sym e) ∙ ps.0.source),
+    are_among k xs ps.1 hs.1,
+  )
 
   same_test : (k : ℕ) (e : Edge) (x : TaskEdge) → k < length t.sources
       → e.src ≡ (source_at t k).vertex → IsPlaced t x → eqb x.edge.src e.src ≡ eqb x.source k
@@ -274,31 +292,32 @@ module _ (p : ProgramEntries) (g : Graph) (t : Tasks) (agrees : AgreesWith p g t
         ∙ sym (eq-eqb x.source k same)
     | inr apart ↦
         ne_eqb x.edge.src e.src
-            (λ q. apart (same_place t agrees.sources_rise x.source k at.place h (at.source ∙ q ∙ is)))
+        (λ q. apart (same_place t agrees.sources_rise x.source k at.place h
+        (at.source ∙ q ∙ is)))
         ∙ sym (ne_eqb x.source k apart)
   ]
 
   same_tests : (k : ℕ) (e : Edge) (xs : List TaskEdge) → k < length t.sources
       → e.src ≡ (source_at t k).vertex → AllByRecursion (IsPlaced t) xs
       → AllByRecursion
-          (λ x. (eqb x.edge.src e.src && eqb x.edge.dst e.dst) ≡ is_mine k e.dst x) xs
+      (λ x. (eqb x.edge.src e.src && eqb x.edge.dst e.dst) ≡ is_mine k e.dst x) xs
   same_tests k e [] h is ps = tt
-  same_tests k e (x ∷ xs) h is ps =
-      (
-        ap (λ b. b && eqb x.edge.dst e.dst) (same_test k e x h is ps.0),
-        same_tests k e xs h is ps.1,
-      )
+  same_tests k e (x ∷ xs) h is ps = (
+    ap (λ b. b && eqb x.edge.dst e.dst) (same_test k e x h is ps.0),
+    same_tests k e xs h is ps.1,
+  )
 
   added_mine : (k : ℕ) (e : Edge) → k < length t.sources → e.src ≡ (source_at t k).vertex
       → is_added t e ≡ has_mine k (from_source k t.added) e.dst
   added_mine k e h is =
-      any_alike (λ x. eqb x.edge.src e.src && eqb x.edge.dst e.dst) (is_mine k e.dst) t.added (same_tests k e t.added h is placed)
+      any_alike (λ x. eqb x.edge.src e.src && eqb x.edge.dst e.dst) (is_mine k e.dst) t.added
+      (same_tests k e t.added h is placed)
       ∙ from_has k e.dst t.added
 
   added_by_source : (k : ℕ) (es : List Edge) → k < length t.sources
       → AllByRecursion (λ (e : Edge). e.src ≡ (source_at t k).vertex) es
       → AllByRecursion
-          (λ e. not (has_mine k (from_source k t.added) e.dst) ≡ not (is_added t e)) es
+      (λ e. not (has_mine k (from_source k t.added) e.dst) ≡ not (is_added t e)) es
   added_by_source k [] h ss = tt
   added_by_source k (e ∷ es) h ss =
       (ap not (sym (added_mine k e h ss.0)), added_by_source k es h ss.1)
@@ -317,10 +336,13 @@ module _ (p : ProgramEntries) (g : Graph) (t : Tasks) (agrees : AgreesWith p g t
       let u : ℕ = (source_at t k).vertex in
       let xs : List TaskEdge = from_source k t.added in
       let hs = recursion_from_All (λ x. HasEdge g x.edge) t.added agrees.come in
-      walk_is_filter k 0 xs (out_edges g u) (from_is_mine t agrees.sources_rise k t.added agrees.added_rise placed) (out_ends_rise g u)
-          (are_among k xs (from_all (IsPlaced t) k t.added placed) (from_all (λ x. HasEdge g x.edge) k t.added hs))
+      walk_is_filter k 0 xs (out_edges g u)
+      (from_is_mine t agrees.sources_rise k t.added agrees.added_rise placed)
+      (out_ends_rise g u)
+      (are_among k xs (from_all (IsPlaced t) k t.added placed)
+      (from_all (λ x. HasEdge g x.edge) k t.added hs))
       ∙ filter_alike (λ e. not (has_mine k xs e.dst)) (λ e. not (is_added t e)) (out_edges g u)
-          (added_by_source k (out_edges g u) h (out_sources u (edges g)))
+      (added_by_source k (out_edges g u) h (out_sources u (edges g)))
 
   -- a source with an added edge has an edge
   pub added_has : All (λ x. 1 ≤ (source_at t x.source).new_degree) t.added
@@ -328,6 +350,7 @@ module _ (p : ProgramEntries) (g : Graph) (t : Tasks) (agrees : AgreesWith p g t
       let x = get_or t.added i d in
       let at = (agrees.added i d h).placed in
       let s = agrees.sources x.source no_source at.place in
-      let some = some_end (out_edges g (source_at t x.source).vertex) x.edge.dst (edge_ends g x.edge (source_at t x.source).vertex (agrees.come i d h) at.source) in
+      let some = some_end (out_edges g (source_at t x.source).vertex) x.edge.dst
+      (edge_ends g x.edge (source_at t x.source).vertex (agrees.come i d h) at.source) in
       let degree = s.degree in
       omega arith

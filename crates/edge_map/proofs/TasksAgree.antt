@@ -60,8 +60,7 @@ all_found : (es : List (Pair × ℤ)) → T (is_sorted pair_cmp es)
     → AllByRecursion (λ (f : Pair × ℤ). find pair_cmp f.0 es ≡ Some f.1) es
 all_found [] s = tt
 all_found (e ∷ es) s =
-    let b = both (below_all pair_cmp e.0 es) (is_sorted pair_cmp es) s in
-    (
+    let b = both (below_all pair_cmp e.0 es) (is_sorted pair_cmp es) s in (
       ap (λ t. cond t (Some e.1) (find pair_cmp e.0 es)) (pair_itself e.0),
       behind es b.0 (all_found es b.1),
     )
@@ -71,8 +70,7 @@ all_found (e ∷ es) s =
         → AllByRecursion (λ (f : Pair × ℤ). find pair_cmp f.0 (e ∷ es) ≡ Some f.1) fs
     behind [] t h = tt
     behind (f ∷ fs) t h =
-        let b = both (is_lt (pair_cmp e.0 f.0)) (below_all pair_cmp e.0 fs) t in
-        (
+        let b = both (is_lt (pair_cmp e.0 f.0)) (below_all pair_cmp e.0 fs) t in (
           ap (λ o. cond o (Some e.1) (find pair_cmp f.0 es)) (pair_behind e.0 f.0 b.0) ∙ h.0,
           behind fs b.1 h.1,
         )
@@ -81,15 +79,17 @@ edges_found : (g : Graph) → All (HasEdge g) (edges g)
 edges_found g =
     All-map (HasEdge g) edge (finite.entries g.weights)
     (λ k d h. finite.get-entries g.weights (get_or (finite.entries g.weights) k d).0
-    ∙ All-from_recursion (λ (f : Pair × ℤ). find pair_cmp f.0 (finite.entries g.weights) ≡ Some f.1) (finite.entries g.weights)
-        (all_found (finite.entries g.weights) (finite.entries_sorted g.weights)) k d h)
+    ∙ All-from_recursion (λ (f : Pair × ℤ). find pair_cmp f.0 (finite.entries g.weights)
+    ≡ Some f.1) (finite.entries g.weights)
+    (all_found (finite.entries g.weights) (finite.entries_sorted g.weights)) k d h)
 
 -- ---- edges in their order
 same_entries : (es : List (Pair × ℤ)) → map entry (map edge es) ≡ es
 same_entries [] = refl
 same_entries (e ∷ es) = ap (λ l. e ∷ l) (same_entries es)
 
-map-twice : (xs : List TaskEdge) → map entry (map (λ (x : TaskEdge). x.edge) xs) ≡ map (λ (x : TaskEdge). entry x.edge) xs
+map-twice : (xs : List TaskEdge) → map entry (map (λ (x : TaskEdge). x.edge) xs)
+    ≡ map (λ (x : TaskEdge). entry x.edge) xs
 map-twice [] = refl
 map-twice (x ∷ xs) = ap (λ l. entry x.edge ∷ l) (map-twice xs)
 
@@ -130,7 +130,8 @@ module _ (p : ProgramEntries) (s : Step) (t : Tasks) (are : AreTasksOf p s t) wh
   added_is : (e : Edge) → list_any (same_ends e) (edges s.new_graph) ≡ true
       → not (is_added t e) ≡ stays_here e
   added_is e there =
-      let alike : (f : Edge) → same_ends e f ≡ true → not (stays_here f) ≡ not (stays_here e) = λ f k.
+      let alike : (f : Edge) → same_ends e f ≡ true → not (stays_here f)
+      ≡ not (stays_here e) = λ f k.
       let b = both_true (eqb f.src e.src) (eqb f.dst e.dst) k in
       let u = eqb-true f.src e.src b.0 in
       let v = eqb-true f.dst e.dst b.1 in
@@ -138,7 +139,8 @@ module _ (p : ProgramEntries) (s : Step) (t : Tasks) (are : AreTasksOf p s t) wh
       let is : is_added t e ≡ not (stays_here e) =
       sym (any-map (same_ends e) (λ (x : TaskEdge). x.edge) t.added)
       ∙ ap (list_any (same_ends e)) (are.added ∙ added-filter s.old_graph s.new_graph)
-      ∙ any-filter_same (same_ends e) (λ f. not (stays_here f)) (not (stays_here e)) alike (edges s.new_graph)
+      ∙ any-filter_same (same_ends e) (λ f. not (stays_here f)) (not (stays_here e)) alike
+      (edges s.new_graph)
       ∙ ap (λ b. not (stays_here e) && b) there ∙ and_true (not (stays_here e)) in
       ap not is ∙ not_twice (stays_here e)
 
@@ -152,9 +154,10 @@ module _ (p : ProgramEntries) (s : Step) (t : Tasks) (are : AreTasksOf p s t) wh
       let all : All P (edges s.new_graph) = λ i d h.
       let e = get_or (edges s.new_graph) i d in
       added_is e (list_any_at (same_ends e) (edges s.new_graph) i d h
-          (λ j. eq-eqb e.src e.src refl j && eq-eqb e.dst e.dst refl j)) in
+      (λ j. eq-eqb e.src e.src refl j && eq-eqb e.dst e.dst refl j)) in
       filter_alike (λ e. not (is_added t e)) stays_here (out_edges s.new_graph u)
-          (recursion_from_All P (out_edges s.new_graph u) (All-filter (λ e. eqb e.src u) P (edges s.new_graph) all))
+      (recursion_from_All P (out_edges s.new_graph u)
+      (All-filter (λ e. eqb e.src u) P (edges s.new_graph) all))
       ∙ sym (stayed_out_filter s.old_graph s.new_graph u)
 
   -- ---- the five points
@@ -168,12 +171,14 @@ module _ (p : ProgramEntries) (s : Step) (t : Tasks) (are : AreTasksOf p s t) wh
     from_old : (P : Edge → Type 0) → All P (edges g) → All (λ (x : TaskEdge). P x.edge) t.removed
     from_old P all =
         task_edges P t.removed (removed g h) are.removed
-        (subst (All P) (sym (removed-filter g h)) (All-filter (λ e. not (edge_stays g h e)) P (edges g) all))
+        (subst (All P) (sym (removed-filter g h))
+        (All-filter (λ e. not (edge_stays g h e)) P (edges g) all))
 
     from_new : (P : Edge → Type 0) → All P (edges h) → All (λ (x : TaskEdge). P x.edge) t.added
     from_new P all =
         task_edges P t.added (added g h) are.added
-        (subst (All P) (sym (added-filter g h)) (All-filter (λ e. not (edge_stays g h e)) P (edges h) all))
+        (subst (All P) (sym (added-filter g h))
+        (All-filter (λ e. not (edge_stays g h e)) P (edges h) all))
 
     attr_between : (l : Limits) (f : Graph) → IsGood l f → (u : ℕ) → u < vertices f
         → IsBetween l.attr_lo l.attr_hi (attr_at f u)
@@ -183,8 +188,11 @@ module _ (p : ProgramEntries) (s : Step) (t : Tasks) (are : AreTasksOf p s t) wh
     sources_are k d small =
         let x = get_or t.sources k d in
         let side = are.sides k d small in
-        let new : AreIn (lane_spans p.ranges) x.new = subst (AreIn (lane_spans p.ranges)) (sym side.new) (good.new_values x.vertex side.there) in
-        let new_attr : IsBetween p.limits.attr_lo p.limits.attr_hi x.new_attr = subst (IsBetween p.limits.attr_lo p.limits.attr_hi) (sym side.new_attr) (attr_between p.limits h good.new_good x.vertex side.there) in
+        let new : AreIn (lane_spans p.ranges) x.new = subst (AreIn (lane_spans p.ranges))
+        (sym side.new) (good.new_values x.vertex side.there) in
+        let new_attr : IsBetween p.limits.attr_lo p.limits.attr_hi x.new_attr = subst
+        (IsBetween p.limits.attr_lo p.limits.attr_hi) (sym side.new_attr)
+        (attr_between p.limits h good.new_good x.vertex side.there) in
         let few = good.old_good.out_degrees x.vertex in
         let degree = side.old_degree in
         record {
@@ -193,13 +201,16 @@ module _ (p : ProgramEntries) (s : Step) (t : Tasks) (are : AreTasksOf p s t) wh
           attr = side.new_attr;
           few = omega arith;
           old = elim (cases_lt x.vertex (vertices g)) [
-            | inl before ↦ subst (AreIn (lane_spans p.ranges)) (sym (side.old before)) (good.old_values x.vertex before)
+            | inl before ↦ subst (AreIn (lane_spans p.ranges)) (sym (side.old before))
+                (good.old_values x.vertex before)
             | inr fresh ↦ subst (AreIn (lane_spans p.ranges)) (sym (side.no_old fresh)) new
           ];
           new = new;
           old_attr = elim (cases_lt x.vertex (vertices g)) [
-            | inl before ↦ subst (IsBetween p.limits.attr_lo p.limits.attr_hi) (sym (side.old_attr before)) (attr_between p.limits g good.old_good x.vertex before)
-            | inr fresh ↦ subst (IsBetween p.limits.attr_lo p.limits.attr_hi) (sym (side.no_attr fresh)) new_attr
+            | inl before ↦ subst (IsBetween p.limits.attr_lo p.limits.attr_hi)
+                (sym (side.old_attr before)) (attr_between p.limits g good.old_good x.vertex before)
+            | inr fresh ↦ subst (IsBetween p.limits.attr_lo p.limits.attr_hi)
+                (sym (side.no_attr fresh)) new_attr
           ];
           new_attr = new_attr;
         }
@@ -207,23 +218,27 @@ module _ (p : ProgramEntries) (s : Step) (t : Tasks) (are : AreTasksOf p s t) wh
     removed_are : All (IsTask p h t) t.removed
     removed_are k d small =
         let grown = good.grown in
-        let there = from_old (λ e. e.dst < vertices g) (λ i f l. (good.old_good.ends i f l).1) k d small in
+        let there = from_old (λ e. e.dst < vertices g) (λ i f l. (good.old_good.ends i f l).1) k d
+        small in
         record {
           placed = are.removed_placed k d small;
           there = omega arith;
-          weight = from_old (λ e. IsBetween p.limits.weight_lo p.limits.weight_hi e.weight) good.old_good.weights k d small;
+          weight = from_old (λ e. IsBetween p.limits.weight_lo p.limits.weight_hi e.weight)
+              good.old_good.weights k d small;
         }
 
     added_are : All (IsTask p h t) t.added
     added_are k d small = record {
       placed = are.added_placed k d small;
       there = from_new (λ e. e.dst < vertices h) (λ i f l. (good.new_good.ends i f l).1) k d small;
-      weight = from_new (λ e. IsBetween p.limits.weight_lo p.limits.weight_hi e.weight) good.new_good.weights k d small;
+      weight = from_new (λ e. IsBetween p.limits.weight_lo p.limits.weight_hi e.weight)
+          good.new_good.weights k d small;
     }
 
     lacks : (e : Edge) → HasEdge g e → not (edge_stays g h e) ≡ true → LacksEdge h e
     lacks e has gone there =
-        let same : edge_stays g h e ≡ true = (λ j. same_weights (has j) (there j)) ∙ (signed_Decides e.weight e.weight).1 refl in
+        let same : edge_stays g h e ≡ true = (λ j. same_weights (has j) (there j))
+        ∙ (signed_Decides e.weight e.weight).1 refl in
         absurd (cc (same, gone))
 
     gone_are : All (λ (x : TaskEdge). LacksEdge h x.edge) t.removed
@@ -232,8 +247,9 @@ module _ (p : ProgramEntries) (s : Step) (t : Tasks) (are : AreTasksOf p s t) wh
         (subst (All (LacksEdge h)) (sym (removed-filter g h))
         (λ i d l.
         let e = get_or (filter (λ e. not (edge_stays g h e)) (edges g)) i d in
-        lacks e (All-filter (λ e. not (edge_stays g h e)) (HasEdge g) (edges g) (edges_found g) i d l)
-            (filter_passes (λ e. not (edge_stays g h e)) (edges g) i d l)))
+        lacks e (All-filter (λ e. not (edge_stays g h e)) (HasEdge g) (edges g) (edges_found g) i d
+        l)
+        (filter_passes (λ e. not (edge_stays g h e)) (edges g) i d l)))
 
     had_are : All (λ (x : TaskEdge). 1 ≤ (source_at t x.source).old_degree) t.removed
     had_are k d small =
@@ -261,10 +277,12 @@ module _ (p : ProgramEntries) (s : Step) (t : Tasks) (are : AreTasksOf p s t) wh
       sources_rise = are.sources_rise;
       removed_rise =
           let q : Pair → Bool = λ k. not (stays g h k) in
-          rise_as t.removed (finite.entries (finite.retain_keys g.weights q)) (finite.entries_sorted (finite.retain_keys g.weights q)) are.removed;
+          rise_as t.removed (finite.entries (finite.retain_keys g.weights q))
+          (finite.entries_sorted (finite.retain_keys g.weights q)) are.removed;
       added_rise =
           let q : Pair → Bool = λ k. not (stays g h k) in
-          rise_as t.added (finite.entries (finite.retain_keys h.weights q)) (finite.entries_sorted (finite.retain_keys h.weights q)) are.added;
+          rise_as t.added (finite.entries (finite.retain_keys h.weights q))
+          (finite.entries_sorted (finite.retain_keys h.weights q)) are.added;
       sources = sources_are;
       removed = removed_are;
       added = added_are;

@@ -86,7 +86,8 @@ none_mine k dst (x ∷ xs) h =
 
 other_end : (k dst : ℕ) (x : TaskEdge) → dst < x.edge.dst → is_mine k dst x ≡ false
 other_end k dst x h =
-    ap (λ b. eqb x.source k && b) (ne_eqb x.edge.dst dst (λ q. omega arith)) ∙ never (eqb x.source k)
+    ap (λ b. eqb x.source k && b) (ne_eqb x.edge.dst dst (λ q. omega arith))
+    ∙ never (eqb x.source k)
   where
     never : (b : Bool) → (b && false) ≡ false
     never true = refl
@@ -110,9 +111,9 @@ among_behind : (k a : ℕ) (e : Edge) (es : List Edge) (xs : List TaskEdge) → 
 among_behind k a e es [] l m h = tt
 among_behind k a e es (x ∷ xs) l m h = elim m [
   | inl n ↦
-      let c = n.1 in
-      (
-        λ s. sym (ap (λ b. b || has_end es x.edge.dst) (ne_eqb e.dst x.edge.dst (λ q. omega arith))) ∙ h.0 s,
+      let c = n.1 in (
+        λ s. sym (ap (λ b. b || has_end es x.edge.dst)
+            (ne_eqb e.dst x.edge.dst (λ q. omega arith))) ∙ h.0 s,
         among_behind k (x.edge.dst + 1) e es xs (omega arith) n.2 h.1,
       )
   | inr p ↦ past (x ∷ xs) p
@@ -142,13 +143,12 @@ keeps_all k xs (e ∷ es) h = (ap not (none_mine k e.dst xs h), keeps_all k xs e
 first_gone : (k : ℕ) (x : TaskEdge) (xs : List TaskEdge) (es : List Edge)
     → AllByRecursion (λ (e : Edge). x.edge.dst < e.dst) es
     → AllByRecursion
-        (λ (e : Edge). not (has_mine k (x ∷ xs) e.dst) ≡ not (has_mine k xs e.dst)) es
+    (λ (e : Edge). not (has_mine k (x ∷ xs) e.dst) ≡ not (has_mine k xs e.dst)) es
 first_gone k x xs [] h = tt
-first_gone k x xs (e ∷ es) h =
-    (
-      ap (λ b. not (b || has_mine k xs e.dst)) (earlier_end e.dst h.0),
-      first_gone k x xs es h.1,
-    )
+first_gone k x xs (e ∷ es) h = (
+  ap (λ b. not (b || has_mine k xs e.dst)) (earlier_end e.dst h.0),
+  first_gone k x xs es h.1,
+)
   where
     never : (b : Bool) → (b && false) ≡ false
     never true = refl
@@ -175,12 +175,16 @@ walk_takes : (k : ℕ) (x : TaskEdge) (xs : List TaskEdge) (e : Edge) (es : List
     → x.source ≡ k → x.edge.dst ≡ e.dst → EndsFrom (e.dst + 1) es → WalkIsFilter k xs es
     → WalkIsFilter k (x ∷ xs) (e ∷ es)
 walk_takes k x xs e es mine same up rest =
-    let is : is_mine k e.dst x ≡ true = (λ j. eq-eqb x.source k mine j && eq-eqb x.edge.dst e.dst same j) in
+    let is : is_mine k e.dst x ≡ true =
+    (λ j. eq-eqb x.source k mine j && eq-eqb x.edge.dst e.dst same j) in
     let behind = all_past x.edge.dst (e.dst + 1) es (omega arith) up in
     ap (λ b. cond b (unadded k xs es) (e ∷ unadded k (x ∷ xs) es)) is
     ∙ rest
-    ∙ sym (filter_alike (λ f. not (has_mine k (x ∷ xs) f.dst)) (λ f. not (has_mine k xs f.dst)) es (first_gone k x xs es behind))
-    ∙ sym (ap (λ b. cond (not (b || has_mine k xs e.dst)) (e ∷ filter (λ f. not (has_mine k (x ∷ xs) f.dst)) es) (filter (λ f. not (has_mine k (x ∷ xs) f.dst)) es)) is)
+    ∙ sym (filter_alike (λ f. not (has_mine k (x ∷ xs) f.dst)) (λ f. not (has_mine k xs f.dst)) es
+    (first_gone k x xs es behind))
+    ∙ sym (ap (λ b. cond (not (b || has_mine k xs e.dst))
+    (e ∷ filter (λ f. not (has_mine k (x ∷ xs) f.dst)) es)
+    (filter (λ f. not (has_mine k (x ∷ xs) f.dst)) es)) is)
 
 walk_leaves : (k : ℕ) (x : TaskEdge) (xs : List TaskEdge) (e : Edge) (es : List Edge)
     → MineFrom k (e.dst + 1) (x ∷ xs) → e.dst < x.edge.dst → WalkIsFilter k (x ∷ xs) es
@@ -188,8 +192,9 @@ walk_leaves : (k : ℕ) (x : TaskEdge) (xs : List TaskEdge) (e : Edge) (es : Lis
 walk_leaves k x xs e es mine later rest =
     ap (λ b. cond b (unadded k xs es) (e ∷ unadded k (x ∷ xs) es)) (other_end k e.dst x later)
     ∙ ap (λ l. e ∷ l) rest
-    ∙ sym (ap (λ b. cond (not b) (e ∷ filter (λ f. not (has_mine k (x ∷ xs) f.dst)) es) (filter (λ f. not (has_mine k (x ∷ xs) f.dst)) es))
-        (mine_above k (e.dst + 1) e.dst (x ∷ xs) (omega arith) mine))
+    ∙ sym (ap (λ b. cond (not b) (e ∷ filter (λ f. not (has_mine k (x ∷ xs) f.dst)) es)
+    (filter (λ f. not (has_mine k (x ∷ xs) f.dst)) es))
+    (mine_above k (e.dst + 1) e.dst (x ∷ xs) (omega arith) mine))
 
 pub walk_is_filter : (k a : ℕ) (xs : List TaskEdge) (es : List Edge) → MineFrom k a xs
     → EndsFrom a es → AreAmong k es xs → WalkIsFilter k xs es
@@ -199,22 +204,26 @@ walk_is_filter k a [] (e ∷ es) m up among =
 walk_is_filter k a (x ∷ xs) (e ∷ es) m up among = elim m [
   | inr p ↦
       walk_past k (x ∷ xs) (e ∷ es) p
-      ∙ sym (filter_all (λ e. not (has_mine k (x ∷ xs) e.dst)) (e ∷ es) (keeps_all k (x ∷ xs) (e ∷ es) p))
+      ∙ sym (filter_all (λ e. not (has_mine k (x ∷ xs) e.dst)) (e ∷ es)
+      (keeps_all k (x ∷ xs) (e ∷ es) p))
   | inl n ↦ elim (cases_lt x.edge.dst e.dst) [
     | inl low ↦
-        let none = no_end x.edge.dst (e ∷ es) (low, all_past x.edge.dst (e.dst + 1) es (omega arith) up.1) in
+        let none = no_end x.edge.dst (e ∷ es)
+        (low, all_past x.edge.dst (e.dst + 1) es (omega arith) up.1) in
         let there = among.0 n.0 in
         absurd (cc (none, there))
     | inr high ↦ elim (cases_eq x.edge.dst e.dst) [
       | inl same ↦
           walk_takes k x xs e es n.0 same up.1
-              (walk_is_filter k (x.edge.dst + 1) xs es n.2 (ends_weaker (e.dst + 1) (x.edge.dst + 1) es (omega arith) up.1)
-                  (among_behind k (x.edge.dst + 1) e es xs (omega arith) n.2 among.1))
+          (walk_is_filter k (x.edge.dst + 1) xs es n.2
+          (ends_weaker (e.dst + 1) (x.edge.dst + 1) es (omega arith) up.1)
+          (among_behind k (x.edge.dst + 1) e es xs (omega arith) n.2 among.1))
       | inr apart ↦
           let later : e.dst < x.edge.dst = omega arith in
           let mine : MineFrom k (e.dst + 1) (x ∷ xs) = inl (n.0, omega arith, n.2) in
           walk_leaves k x xs e es mine later
-              (walk_is_filter k (e.dst + 1) (x ∷ xs) es mine up.1 (among_behind k (e.dst + 1) e es (x ∷ xs) (omega arith) mine among))
+          (walk_is_filter k (e.dst + 1) (x ∷ xs) es mine up.1
+          (among_behind k (e.dst + 1) e es (x ∷ xs) (omega arith) mine among))
     ]
   ]
 ]

@@ -1,5 +1,6 @@
 -- What tasks add to the words of the aggregates.
-use Rattle.std.specs.Prelude.{ℕ, ℤ, pos, neg_ℤ, ◌-ℤ◌, ◌==◌, ◌&&◌, not, Bool, false, List, [], ◌∷◌, ◌++◌, map, filter, length, slice_index_or, sum_by}
+use Rattle.std.specs.Prelude.{ℕ, ℤ, pos, neg_ℤ, ◌-ℤ◌, ◌==◌, ◌&&◌, not, Bool, false, List, [], ◌∷◌}
+use Rattle.std.specs.Prelude.{◌++◌, map, filter, length, slice_index_or, sum_by}
 use Rattle.std.specs.List.{flat_map, list_any, range_with_len}
 use Rattle.bolt_base.specs.Graph.{Graph, out_edges}
 use Rattle.bolt_base.specs.Residue.{Amount}
@@ -18,15 +19,27 @@ use Rattle.edge_map.specs.declared.tasks.Work.TheVariants.{Removed, Added, Dirty
 
 -- ---- sources
 abbrev pub no_source : Source
-no_source = record { vertex = 0; old = []; new = []; old_degree = 0; new_degree = 0; old_attr = pos 0; new_attr = pos 0; dirty = false }
+no_source = record {
+  vertex = 0;
+  old = [];
+  new = [];
+  old_degree = 0;
+  new_degree = 0;
+  old_attr = pos
+      0;
+  new_attr = pos 0;
+  dirty = false;
+}
 
 -- the source at a place
 abbrev pub source_at : Tasks → ℕ → Source
 source_at t k = slice_index_or t.sources k no_source
 
--- what contribute reads of a vertex with this value, out-degree and attribute, for an edge of this weight
+-- what contribute reads of a vertex with this value, out-degree and attribute, for an edge of this
+-- weight
 abbrev pub source_env : ProgramEntries → List ℤ → ℕ → ℤ → ℤ → ℕ → Env
-source_env p val degree w attr u = record { val = val; agg = zeros p; old = zeros p; outdeg = degree; weight = w; attr = attr; id = u }
+source_env p val degree w attr u = record
+    { val = val; agg = zeros p; old = zeros p; outdeg = degree; weight = w; attr = attr; id = u }
 
 -- and of a source, before and after
 abbrev pub was_env : ProgramEntries → Source → ℤ → Env
@@ -57,15 +70,28 @@ stayed_out g t k = filter (λ e. not (is_added t e)) (out_edges g (source_at t k
 
 -- ---- what an item gives
 abbrev pub removed_gift : ProgramEntries → Tasks → TaskEdge → Gift
-removed_gift p t x = record { dst = x.edge.dst; amount = λ l. neg_ℤ (given p (was_env p (source_at t x.source) x.edge.weight) l) }
+removed_gift p t x = record {
+  dst = x.edge.dst;
+  amount = λ l. neg_ℤ
+      (given p (was_env p (source_at t x.source) x.edge.weight) l);
+}
 
 abbrev pub added_gift : ProgramEntries → Tasks → TaskEdge → Gift
-added_gift p t x = record { dst = x.edge.dst; amount = λ l. given p (now_env p (source_at t x.source) x.edge.weight) l }
+added_gift p t x = record {
+  dst = x.edge.dst;
+  amount = λ l. given p
+      (now_env p (source_at t x.source) x.edge.weight) l;
+}
 
 abbrev pub change_gift : ProgramEntries → Source → Edge → Gift
-change_gift p x e = record { dst = e.dst; amount = λ l. given p (now_env p x e.weight) l -ℤ given p (was_env p x e.weight) l }
+change_gift p x e = record {
+  dst = e.dst;
+  amount = λ l. given p (now_env p x e.weight) l -ℤ given p
+      (was_env p x e.weight) l;
+}
 
--- minus the old contribution of a removed edge, the new one of an added edge, and for each edge out of a dirty source that
+-- minus the old contribution of a removed edge, the new one of an added edge, and for each edge out
+-- of a dirty source that
 -- stayed, by destination, the new one less the old one
 abbrev pub gifts : ProgramEntries → Graph → Tasks → Work → List Gift
 gifts p g t (Removed x) = removed_gift p t x ∷ []

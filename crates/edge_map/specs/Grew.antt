@@ -1,5 +1,6 @@
 -- How a seat's view grows.
-use Rattle.std.specs.Prelude.{ℕ, ℤ, ◌+◌, ◌*◌, ◌≡◌, ◌<◌, ◌≤◌, min, List, ◌++◌, map, length, take, All}
+use Rattle.std.specs.Prelude.{ℕ, ℤ, ◌+◌, ◌*◌, ◌≡◌, ◌<◌, ◌≤◌, min, List, ◌++◌, map, length, take}
+use Rattle.std.specs.Prelude.{All}
 use Rattle.std.specs.Int.{cast_unsigned, w64}
 use Rattle.std.specs.List.{range_with_len}
 use Rattle.bolt_base.specs.Residue.{Amount}
@@ -14,13 +15,14 @@ abbrev pub lane_adds : ℕ → List ℤ → List Amount
 lane_adds dst xs = map (lane_add dst xs) (range_with_len 0 (length xs))
 
 -- the view has grown by these amounts and marks, and each end was marked or met
-pub record Grew (old new : View) (more : List Amount) (ends : List ℕ) (targets : List ℕ) : Type 0 where
-  pub units : new.units ≡ old.units
-  pub amounts : new.amounts ≡ old.amounts ++ more
-  pub marks : new.marks ≡ old.marks ++ targets
-  pub also : List ℕ
-  pub met : new.met ≡ old.met ++ also
-  pub bits : (b : ℕ) → times b ends ≡ times b targets + times b also
+pub record Grew (old new : View) (more : List Amount) (ends : List ℕ) (targets : List ℕ) : Type 0
+  where
+    pub units : new.units ≡ old.units
+    pub amounts : new.amounts ≡ old.amounts ++ more
+    pub marks : new.marks ≡ old.marks ++ targets
+    pub also : List ℕ
+    pub met : new.met ≡ old.met ++ also
+    pub bits : (b : ℕ) → times b ends ≡ times b targets + times b also
 
 -- the first targets are the last marks of the view, and vertices below n
 pub record AreMarked (n : ℕ) (v : View) (count : ℕ) (targets : List ℕ) : Type 0 where

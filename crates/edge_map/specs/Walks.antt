@@ -1,5 +1,6 @@
 -- The edges out of a dirty source, one after the other.
-use Rattle.std.specs.Prelude.{◌≡◌, ℕ, ℤ, ◌-ℤ◌, ◌<◌, ◌≤◌, ◌==◌, ◌&&◌, nat_lt, if◌then◌else◌, Bool, true, false, List, [], ◌∷◌, ◌++◌, map, length, drop}
+use Rattle.std.specs.Prelude.{◌≡◌, ℕ, ℤ, ◌-ℤ◌, ◌<◌, ◌≤◌, ◌==◌, ◌&&◌, nat_lt, if◌then◌else◌, Bool}
+use Rattle.std.specs.Prelude.{true, false, List, [], ◌∷◌, ◌++◌, map, length, drop}
 use Rattle.std.specs.Int.{int_wrap, w64}
 use Rattle.bolt_base.specs.Graph.{Graph, out_edges}
 use Rattle.bolt_base.specs.Residue.{Amount}
@@ -7,7 +8,8 @@ use Rattle.bolt_base.specs.declared.edge.Edge.{Edge}
 use Rattle.vertex_expr.specs.declared.program.ProgramEntries.{ProgramEntries}
 use Rattle.agg_words.specs.View.{View}
 use Rattle.run_model.specs.Program.{lanes, number}
-use Rattle.edge_map.specs.Additions.{source_at, was_env, now_env, given, change_gift, adds_of_gifts, ends_of_gifts}
+use Rattle.edge_map.specs.Additions.{source_at, was_env, now_env, given, change_gift, adds_of_gifts}
+use Rattle.edge_map.specs.Additions.{ends_of_gifts}
 use Rattle.edge_map.specs.Agrees.{IsTask}
 use Rattle.edge_map.specs.Grew.{Grew}
 use Rattle.edge_map.specs.declared.tasks.Source.{Source}
@@ -37,7 +39,8 @@ walked_out g t k = unadded k (from_source k t.added) (out_edges g (source_at t k
 -- the new contribution of an edge of this weight less the old one, lane by lane, with wrap-around
 pub record IsDelta (p : ProgramEntries) (x : Source) (w : ℤ) (xs : List ℤ) : Type 0 where
   pub long : length xs ≡ lanes p
-  pub each : (l : ℕ) → l < lanes p → number xs l ≡ int_wrap w64 (given p (now_env p x w) l -ℤ given p (was_env p x w) l)
+  pub each : (l : ℕ) → l < lanes p → number xs l
+      ≡ int_wrap w64 (given p (now_env p x w) l -ℤ given p (was_env p x w) l)
 
 -- the list begins with an added edge of source k with this end
 abbrev pub begins : ℕ → ℕ → List TaskEdge → Bool
@@ -50,9 +53,13 @@ IsWork p g t (Removed x) = IsTask p g t x × (1 ≤ (source_at t x.source).old_d
 IsWork p g t (Added x) = IsTask p g t x × (1 ≤ (source_at t x.source).new_degree)
 IsWork p g t (Dirty k) = (k < length t.sources) × ((source_at t k).dirty ≡ true)
 
--- what the first k edges out of a dirty source have given, where `next` is the next of the added edges
-pub record Walked (p : ProgramEntries) (g : Graph) (t : Tasks) (place next k : ℕ) (first last : View) (before after : List ℕ) : Type 0 where
+-- what the first k edges out of a dirty source have given, where `next` is the next of the added
+-- edges
+pub record Walked (p : ProgramEntries) (g : Graph) (t : Tasks) (place next k : ℕ)
+    (first last : View) (before after : List ℕ) : Type 0 where
   pub done : List Edge
-  pub rest : done ++ unadded place (drop next t.added) (drop k (out_edges g (source_at t place).vertex)) ≡ walked_out g t place
+  pub rest : done ++ unadded place (drop next t.added)
+      (drop k (out_edges g (source_at t place).vertex)) ≡ walked_out g t place
   pub grew : (start : View) (more : List Amount) (ends : List ℕ) → Grew start first more ends before
-      → Grew start last (more ++ adds_of_gifts p (map (change_gift p (source_at t place)) done)) (ends ++ ends_of_gifts (map (change_gift p (source_at t place)) done)) after
+      → Grew start last (more ++ adds_of_gifts p (map (change_gift p (source_at t place)) done))
+      (ends ++ ends_of_gifts (map (change_gift p (source_at t place)) done)) after

@@ -5,7 +5,8 @@ ghost use Rattle.bolt_base.specs.Pieces.{cut};
 ghost use Rattle.edge_map.specs.Additions.{gifts_of_works, adds_of_gifts, ends_of_gifts, visits_of};
 ghost use Rattle.edge_map.specs.Forks.{part_visits, piece_room, part_room};
 ghost use Rattle.edge_map.specs.Grew.{Grew};
-ghost use Rattle.edge_map.specs.Plans.{IsPlan, HasRoom};
+ghost use Rattle.edge_map.specs.Plans.{IsPlan};
+ghost use Rattle.edge_map.specs.Ready.{HasRoom};
 ghost use Rattle.edge_map.specs.Walks.{IsWork};
 
 use crate::item::make;
@@ -26,7 +27,8 @@ pub(crate) fn cut_at(piece: u32, total: usize, workers: u32) -> usize
     begin as usize
 }
 
-// How many targets a piece can have: as many as it reads edges, but no more than there are vertices.
+// How many targets a piece can have: as many as it reads edges, but no more than there are
+// vertices.
 fn piece_room<A: Adjacency>(graph: &A, plan: &Plan, piece: u32) -> usize
     requires piece { piece < plan.now.workers }
     requires visits { part_visits plan.now piece (piece + 1) < 2 ^ 64 }
@@ -64,16 +66,24 @@ pub(crate) fn run_piece<A: Metered<M>, M: Meter>(
     requires table { seat.old.table ≡ words.now.table }
     requires unit { 1 ≤ seat.old.view.units }
     requires plan { IsPlan (A.plain graph.now) plan.now }
-    requires words { HasRoom plan.now.program.now (A.plain graph.now) words.now.layout.words words.now.layout.bits }
-    requires works { All (IsWork plan.now.program.now (A.plain graph.now) plan.now.tasks.now) all.now }
-    requires room { min (vertices (A.plain graph.now)) (visits_of plan.now.tasks.now all.now) ≤ length targets.old }
+    requires words { HasRoom plan.now.program.now (A.plain graph.now) words.now.layout.words
+        words.now.layout.bits }
+    requires works { All (IsWork plan.now.program.now (A.plain graph.now) plan.now.tasks.now)
+        all.now }
+    requires room { min (vertices (A.plain graph.now)) (visits_of plan.now.tasks.now all.now) ≤
+        length targets.old }
     requires visits { M.counted meter.old + visits_of plan.now.tasks.now all.now < 2 ^ 64 }
     ensures table { seat.new.table ≡ seat.old.table }
     ensures units { seat.new.view.units ≡ seat.old.view.units }
     ensures held { M.held meter.new ≡ M.held meter.old }
-    ensures visits { M.counted meter.new ≡ M.counted meter.old + visits_of plan.now.tasks.now all.now }
+    ensures visits { M.counted meter.new
+        ≡ M.counted meter.old + visits_of plan.now.tasks.now all.now }
     ensures count { result ≤ length targets.new }
-    ensures grew { Grew seat.old.view seat.new.view (adds_of_gifts plan.now.program.now (gifts_of_works plan.now.program.now (A.plain graph.now) plan.now.tasks.now all.now)) (ends_of_gifts (gifts_of_works plan.now.program.now (A.plain graph.now) plan.now.tasks.now all.now)) (take result targets.new) }
+    ensures grew { Grew seat.old.view seat.new.view
+        (adds_of_gifts plan.now.program.now
+        (gifts_of_works plan.now.program.now (A.plain graph.now) plan.now.tasks.now all.now))
+        (ends_of_gifts (gifts_of_works plan.now.program.now (A.plain graph.now)
+        plan.now.tasks.now all.now)) (take result targets.new) }
 {
     let mut count = 0;
     for work in all {

@@ -1,5 +1,6 @@
 // What is computed before the first addition.
-ghost use Rattle.std.specs.Prelude.{◌≡◌, ℕ, ◌+◌, ◌*◌, ◌^◌, ◌<◌, ◌≤◌, false, length, drop, IfOk, slice_index_or};
+ghost use Rattle.std.specs.Prelude.{◌≡◌, ℕ, ◌+◌, ◌*◌, ◌^◌, ◌<◌, ◌≤◌, false, length, drop, IfOk};
+ghost use Rattle.std.specs.Prelude.{slice_index_or};
 ghost use Rattle.std.specs.List.{list_any};
 ghost use Rattle.vertex_expr.specs.Mentions.{mentions_weight};
 ghost use Rattle.edge_map.specs.Walks.{from_source};
@@ -38,7 +39,8 @@ pub(crate) fn sides_of(
     requires fit { AreFit program.now tasks.now }
     requires by_edge { by_edge ≡ list_any mentions_weight program.now.contribute }
     ensures long { IfOk result (λ sides. length sides.items ≡ length tasks.now.sources) }
-    ensures sides { IfOk result (λ sides. (k : ℕ) (d : Sides) → k < length tasks.now.sources → AreSides program.now tasks.now k (slice_index_or sides.items k d)) }
+    ensures sides { IfOk result (λ sides. (k : ℕ) (d : Sides) → k < length tasks.now.sources
+        → AreSides program.now tasks.now k (slice_index_or sides.items k d)) }
 {
     let sources = tasks.sources.as_slice();
     let added = tasks.added.as_slice();

@@ -1,11 +1,13 @@
 // The additions of tasks, by several workers.
-ghost use Rattle.std.specs.Prelude.{◌≡◌, ℕ, ◌+◌, ◌*◌, ◌^◌, ◌<◌, ◌≤◌, ◌++◌, length, IfOk, OnOk, OnErr};
+ghost use Rattle.std.specs.Prelude.{◌≡◌, ℕ, ◌+◌, ◌*◌, ◌^◌, ◌<◌, ◌≤◌, ◌++◌, length, IfOk, OnOk};
+ghost use Rattle.std.specs.Prelude.{OnErr};
 ghost use Rattle.bolt_base.specs.Graph.{IsGood};
 ghost use Rattle.range_check.specs.Breaks.{IsAccepted};
-ghost use Rattle.agg_words.specs.Known.{IsClear};
-ghost use Rattle.edge_map.specs.Additions.{works, task_adds, task_gifts, task_visits, ends_of_gifts};
+ghost use Rattle.edge_map.specs.Additions.{works, task_adds, task_gifts, task_visits};
+ghost use Rattle.edge_map.specs.Additions.{ends_of_gifts};
 ghost use Rattle.edge_map.specs.Agrees.{AgreesWith};
-ghost use Rattle.edge_map.specs.Plans.{AreFit, IsReady, HasRoom};
+ghost use Rattle.edge_map.specs.Plans.{AreFit, IsReady};
+ghost use Rattle.edge_map.specs.Ready.{WordsReady};
 ghost use Rattle.edge_map.specs.Targets.{AreTargets};
 
 use crate::contributions::reads_weight;
@@ -50,8 +52,10 @@ fn plan_of<'a>(
     })
 }
 
-/// Makes the additions of the tasks, in one piece for each worker, each in a thread of its own where one can be had. With one
-/// worker no thread is started. It answers the vertices that were added to, rising. All memory is taken before the first
+/// Makes the additions of the tasks, in one piece for each worker, each in a thread of its own
+/// where one can be had. With one
+/// worker no thread is started. It answers the vertices that were added to, rising. All memory is
+/// taken before the first
 /// addition, so that after `Memory` nothing was added.
 pub fn spread<R: Threads + Sync, A: Metered<M> + Sync, T: Gate + Sync, M: Meter + Send>(
     rt: &R,
@@ -67,20 +71,23 @@ pub fn spread<R: Threads + Sync, A: Metered<M> + Sync, T: Gate + Sync, M: Meter 
 ) -> Result<TargetList, Memory>
     requires good { IsGood accepted.now.limits (A.plain graph.now) }
     requires agrees { AgreesWith accepted.now (A.plain graph.now) tasks.now }
-    requires workers { (1 ≤ workers) × (workers ≤ 64) }
     requires table { seat.old.table ≡ words.now.table }
-    requires room { HasRoom accepted.now (A.plain graph.now) words.now.layout.words words.now.layout.bits }
-    requires clear { IsClear words.now.layout seat.old.view }
-    requires units { workers ≤ seat.old.view.units }
+    requires ready { WordsReady accepted.now (A.plain graph.now) workers words.now.layout
+        seat.old.view }
     requires held { 64 ≤ M.held meter.old }
     requires visits { M.counted meter.old + task_visits tasks.now < 2 ^ 64 }
     ensures table { seat.new.table ≡ seat.old.table }
     ensures units { seat.new.view.units ≡ seat.old.view.units }
     ensures held { M.held meter.new ≡ M.held meter.old }
-    ensures visits { OnOk result (M.counted meter.new ≡ M.counted meter.old + task_visits tasks.now) }
-    ensures amounts { OnOk result (seat.new.view.amounts ≡ seat.old.view.amounts ++ task_adds accepted.now (A.plain graph.now) tasks.now) }
-    ensures targets { IfOk result (λ targets. AreTargets (ends_of_gifts (task_gifts accepted.now (A.plain graph.now) tasks.now)) targets seat.new.view) }
-    ensures memory { OnErr result ((seat.new ≡ seat.old) × (M.counted meter.new ≡ M.counted meter.old)) }
+    ensures visits { OnOk result (M.counted meter.new
+        ≡ M.counted meter.old + task_visits tasks.now) }
+    ensures amounts { OnOk result (seat.new.view.amounts ≡ seat.old.view.amounts
+        ++ task_adds accepted.now (A.plain graph.now) tasks.now) }
+    ensures targets { IfOk result (λ targets. AreTargets
+        (ends_of_gifts (task_gifts accepted.now (A.plain graph.now) tasks.now)) targets
+        seat.new.view) }
+    ensures memory { OnErr result ((seat.new ≡ seat.old)
+        × (M.counted meter.new ≡ M.counted meter.old)) }
 {
     let plan = plan_of(alloc, accepted.program(), tasks, workers)?;
     let room = room_of(graph, &plan, 0, workers);

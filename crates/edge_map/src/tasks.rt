@@ -2,7 +2,8 @@
 use bolt_base::{Edge, Items, Lanes};
 use vertex_expr::Program;
 
-/// A vertex whose contributions change: its value, out-degree and attribute before and after, and whether it is dirty.
+/// A vertex whose contributions change: its value, out-degree and attribute before and after, and
+/// whether it is dirty.
 #[derive(Clone, Copy, Debug)]
 pub struct Source {
     pub vertex: u32,
@@ -27,7 +28,8 @@ pub type TaskSourceList = Items<Source>;
 /// Removed or added edges, rising by source and destination.
 pub type TaskEdgeList = Items<TaskEdge>;
 
-/// What an iteration of a sum program adds to the words of the aggregates: for removed edges, for added ones, and for the
+/// What an iteration of a sum program adds to the words of the aggregates: for removed edges, for
+/// added ones, and for the
 /// edges out of dirty sources that stayed.
 #[derive(Debug, Drop)]
 pub struct Tasks {
@@ -44,7 +46,8 @@ pub(crate) enum Work {
     Dirty(u32),
 }
 
-/// What the edges out of a source contribute before and after, whatever their weight, and where its added edges begin.
+/// What the edges out of a source contribute before and after, whatever their weight, and where its
+/// added edges begin.
 #[derive(Clone, Copy, Debug)]
 pub(crate) struct Sides {
     pub(crate) was: Lanes,

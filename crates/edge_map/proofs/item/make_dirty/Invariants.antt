@@ -13,5 +13,6 @@ invariant-loop-k g l = record {
   least : l.count ≤ l.total;
   most : l.total ≤ l.count + l.k;
   marked : AreMarked (vertices (g.A.Adjacency.plain l.graph)) l.seat.view l.total l.targets;
-  walked : Walked l.plan.program.now (g.A.Adjacency.plain l.graph) l.plan.tasks.now l.place l.next l.k l.initial.seat.view l.seat.view (take l.count l.initial.targets) (take l.total l.targets);
+  walked : Walked l.plan.program.now (g.A.Adjacency.plain l.graph) l.plan.tasks.now l.place l.next
+      l.k l.initial.seat.view l.seat.view (take l.count l.initial.targets) (take l.total l.targets);
 }

@@ -10,7 +10,8 @@ loop-piece-init g c =
     let from : ℕ = c.args.from in
     record {
       within = omega arith;
-      room = sym (ap (λ k. sum_by (piece_room (g.A.Adjacency.plain c.args.graph.now) c.args.plan.now) (range_with_len from k)) (let e : from - from ≡ 0 = omega arith in e));
+      room = sym (ap (λ k. sum_by (piece_room (g.A.Adjacency.plain c.args.graph.now)
+          c.args.plan.now) (range_with_len from k)) (let e : from - from ≡ 0 = omega arith in e));
     }
 
 pub piece_room-room-requires-clause-visits : goal.piece_room-room-requires-clause-visits

@@ -10,8 +10,12 @@ use Rattle.edge_map.proofs.piece.run_piece.Goals as goal
 
 pub make-count-requires-clause-room : goal.make-count-requires-clause-room
 make-count-requires-clause-room g c =
-    let d : Work = Removed (record { source = 0; edge = record { src = 0; dst = 0; weight = pos 0 } }) in
-    let more = sum_by_more_le (visits c.args.plan.now.tasks.now) c.args.all.now c.loop-work.work-index d c.loop-work-test.true in
+    let d : Work = Removed (record {
+      source = 0;
+      edge = record { src = 0; dst = 0; weight = pos 0 };
+    }) in
+    let more = sum_by_more_le (visits c.args.plan.now.tasks.now) c.args.all.now
+    c.loop-work.work-index d c.loop-work-test.true in
     let so_far = c.loop-work.invariant.count in
     let room = c.requires.room in
     let same = c.loop-work.auto.targets in
@@ -19,8 +23,12 @@ make-count-requires-clause-room g c =
 
 pub make-count-requires-clause-visits : goal.make-count-requires-clause-visits
 make-count-requires-clause-visits g c =
-    let d : Work = Removed (record { source = 0; edge = record { src = 0; dst = 0; weight = pos 0 } }) in
-    let more = sum_by_more_le (visits c.args.plan.now.tasks.now) c.args.all.now c.loop-work.work-index d c.loop-work-test.true in
+    let d : Work = Removed (record {
+      source = 0;
+      edge = record { src = 0; dst = 0; weight = pos 0 };
+    }) in
+    let more = sum_by_more_le (visits c.args.plan.now.tasks.now) c.args.all.now
+    c.loop-work.work-index d c.loop-work-test.true in
     let so_far = c.loop-work.invariant.visits in
     let room = c.requires.visits in
     omega arith
@@ -33,6 +41,7 @@ loop-work-init g c =
       held = search rules;
       visits = search rules;
       count = search rules;
-      marked = marked_none (vertices (g.A.Adjacency.plain c.args.graph.now)) c.args.seat.now.view c.args.targets.now;
+      marked = marked_none (vertices (g.A.Adjacency.plain c.args.graph.now)) c.args.seat.now.view
+          c.args.targets.now;
       grew = grew_none c.args.seat.now.view;
     }
