@@ -1,7 +1,8 @@
 -- What a function of the code answers, against a definition that knows no memory.
 use Rattle.std.specs.Prelude.{◌≡◌, Result, Ok, Err}
 use Rattle.text_words.specs.declared.error.LangError.{LangError}
-use Rattle.text_words.specs.declared.error.LangError.TheVariants.{Memory, Syntax, Unknown, Repeat, Missing, TooBig}
+use Rattle.text_words.specs.declared.error.LangError.TheVariants.{Memory, Syntax, Unknown, Repeat}
+use Rattle.text_words.specs.declared.error.LangError.TheVariants.{Missing, TooBig}
 
 -- what holds unless memory ran out
 abbrev pub Unless : LangError → Type 0 → Type 0
