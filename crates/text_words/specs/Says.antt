@@ -17,3 +17,8 @@ Unless (TooBig at) p = p
 abbrev pub Says : {A B : Type 0} → (A → B) → Result A LangError → Result B LangError → Type 0
 Says view (Ok x) read = read ≡ Ok (view x)
 Says view (Err e) read = Unless e (read ≡ Err e)
+
+-- the same of a function that takes no memory: it answers what the definition gives
+abbrev pub SaysAlways : {A B : Type 0} → (A → B) → Result A LangError → Result B LangError → Type 0
+SaysAlways view (Ok x) read = read ≡ Ok (view x)
+SaysAlways view (Err e) read = read ≡ Err e

@@ -3,7 +3,7 @@ ghost use Rattle.std.specs.Prelude.{◌≡◌, ◌+◌, ◌≤◌, ◌<◌, ◌^
 ghost use Rattle.std.specs.List.{prefix_len, list_all};
 ghost use Rattle.vertex_expr.specs.Names.{is_name_byte as is_name, is_name as is_name_word};
 ghost use Rattle.lexical.specs.Seen.{word_of};
-ghost use Rattle.text_words.specs.Says.{Says};
+ghost use Rattle.text_words.specs.Says.{SaysAlways};
 ghost use Rattle.text_words.specs.Fields.{is_ascii, ascii_word as ascii_word_of};
 ghost use Rattle.text_words.specs.Fields.{word_at as word_of_line, ended_at as ended_of};
 ghost use Rattle.text_words.specs.Fields.{whole_of as whole_number, number_at as number_of_line};
@@ -28,7 +28,7 @@ fn is_all_ascii(bytes: &[u8]) -> bool
 
 pub fn ascii_word(word: Word) -> Result<Word, LangError>
     requires { word.at + length word.bytes.now < 2 ^ 32 }
-    ensures says { Says (λ w. word_of w) result (ascii_word_of (word_of word.entry)) }
+    ensures says { SaysAlways (λ w. word_of w) result (ascii_word_of (word_of word.entry)) }
     ensures same { IfOk result (λ w. w ≡ word.entry) }
 {
     if is_all_ascii(word.bytes) {
@@ -45,7 +45,7 @@ pub fn ascii_word(word: Word) -> Result<Word, LangError>
 pub fn word_at(line: &[u8], from: usize) -> Result<Word<'_>, LangError>
     requires within { from ≤ length line.now }
     requires short { length line.now < 2 ^ 32 }
-    ensures says { Says (λ w. word_of w) result (word_of_line line.now from) }
+    ensures says { SaysAlways (λ w. word_of w) result (word_of_line line.now from) }
     ensures within { IfOk result (λ w. w.at + length w.bytes.now ≤ length line.now) }
 {
     match word_from(line, from) {
@@ -61,7 +61,7 @@ pub fn word_at(line: &[u8], from: usize) -> Result<Word<'_>, LangError>
 pub fn ended_at(line: &[u8], from: usize) -> Result<(), LangError>
     requires within { from ≤ length line.now }
     requires short { length line.now < 2 ^ 32 }
-    ensures { Says (λ _. tt) result (ended_of line.now from) }
+    ensures { SaysAlways (λ _. tt) result (ended_of line.now from) }
 {
     match word_from(line, from) {
         None => Ok(()),
@@ -97,7 +97,7 @@ fn whole_of(word: &[u8]) -> Option<i128>
 pub fn number_at(line: &[u8], from: usize, low: u64, high: u64) -> Result<(u64, usize), LangError>
     requires within { from ≤ length line.now }
     requires short { length line.now < 2 ^ 32 }
-    ensures says { Says (λ r. r) result (number_of_line line.now from low high) }
+    ensures says { SaysAlways (λ r. r) result (number_of_line line.now from low high) }
     ensures within { IfOk result (λ r. r.1 ≤ length line.now) }
     ensures bounded { IfOk result (λ r. r.0 ≤ high) }
 {
@@ -117,7 +117,7 @@ pub fn number_at(line: &[u8], from: usize, low: u64, high: u64) -> Result<(u64, 
 pub fn signed_at(line: &[u8], from: usize, low: i64, high: i64) -> Result<(i64, usize), LangError>
     requires within { from ≤ length line.now }
     requires short { length line.now < 2 ^ 32 }
-    ensures says { Says (λ r. r) result (signed_of_line line.now from low high) }
+    ensures says { SaysAlways (λ r. r) result (signed_of_line line.now from low high) }
     ensures within { IfOk result (λ r. r.1 ≤ length line.now) }
 {
     let word = word_at(line, from)?;
@@ -149,7 +149,7 @@ fn is_name(word: &[u8]) -> bool
 pub fn name_at(line: &[u8], from: usize) -> Result<Word<'_>, LangError>
     requires within { from ≤ length line.now }
     requires short { length line.now < 2 ^ 32 }
-    ensures says { Says (λ w. word_of w) result (name_of_line line.now from) }
+    ensures says { SaysAlways (λ w. word_of w) result (name_of_line line.now from) }
     ensures within { IfOk result (λ w. w.at + length w.bytes.now ≤ length line.now) }
 {
     let word = word_at(line, from)?;

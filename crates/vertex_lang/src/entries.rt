@@ -1,6 +1,6 @@
 // What an entry says behind its word, of those that stand once.
 ghost use Rattle.std.specs.Prelude.{◌≡◌, ◌≤◌, ◌<◌, ◌^◌, length, IfOk, false};
-ghost use Rattle.text_words.specs.Says.{Says};
+ghost use Rattle.text_words.specs.Says.{Says, SaysAlways};
 ghost use Rattle.text_words.specs.declared.error.Keyword.TheVariants.{Program as ProgramWord};
 ghost use Rattle.text_words.specs.declared.error.Keyword.TheVariants.{Vertices as VerticesWord};
 ghost use Rattle.text_words.specs.declared.error.Keyword.TheVariants.{Degree as DegreeWord};
@@ -48,7 +48,7 @@ fn vertices_entry(
     requires within { from ≤ length line.now }
     requires short { length line.now < 2 ^ 32 }
     requires small { IsSmall entries }
-    ensures says { Says (λ r. r) result (entry_of_line entries VerticesWord line.now from) }
+    ensures says { SaysAlways (λ r. r) result (entry_of_line entries VerticesWord line.now from) }
     ensures within { IfOk result (λ r. r.1 ≤ length line.now) }
     ensures small { IfOk result (λ r. IsSmall r.0) }
 {
@@ -67,7 +67,7 @@ fn degree_entry(
     requires within { from ≤ length line.now }
     requires short { length line.now < 2 ^ 32 }
     requires small { IsSmall entries }
-    ensures says { Says (λ r. r) result (entry_of_line entries DegreeWord line.now from) }
+    ensures says { SaysAlways (λ r. r) result (entry_of_line entries DegreeWord line.now from) }
     ensures within { IfOk result (λ r. r.1 ≤ length line.now) }
     ensures small { IfOk result (λ r. IsSmall r.0) }
 {
@@ -86,7 +86,7 @@ fn edges_entry(
     requires within { from ≤ length line.now }
     requires short { length line.now < 2 ^ 32 }
     requires small { IsSmall entries }
-    ensures says { Says (λ r. r) result (entry_of_line entries EdgesWord line.now from) }
+    ensures says { SaysAlways (λ r. r) result (entry_of_line entries EdgesWord line.now from) }
     ensures within { IfOk result (λ r. r.1 ≤ length line.now) }
     ensures small { IfOk result (λ r. IsSmall r.0) }
 {
@@ -105,7 +105,7 @@ fn weight_entry(
     requires within { from ≤ length line.now }
     requires short { length line.now < 2 ^ 32 }
     requires small { IsSmall entries }
-    ensures says { Says (λ r. r) result (entry_of_line entries WeightWord line.now from) }
+    ensures says { SaysAlways (λ r. r) result (entry_of_line entries WeightWord line.now from) }
     ensures within { IfOk result (λ r. r.1 ≤ length line.now) }
     ensures small { IfOk result (λ r. IsSmall r.0) }
 {
@@ -125,7 +125,7 @@ fn attr_entry(
     requires within { from ≤ length line.now }
     requires short { length line.now < 2 ^ 32 }
     requires small { IsSmall entries }
-    ensures says { Says (λ r. r) result (entry_of_line entries AttrWord line.now from) }
+    ensures says { SaysAlways (λ r. r) result (entry_of_line entries AttrWord line.now from) }
     ensures within { IfOk result (λ r. r.1 ≤ length line.now) }
     ensures small { IfOk result (λ r. IsSmall r.0) }
 {
@@ -145,7 +145,7 @@ fn rounds_entry(
     requires within { from ≤ length line.now }
     requires short { length line.now < 2 ^ 32 }
     requires small { IsSmall entries }
-    ensures says { Says (λ r. r) result (entry_of_line entries RoundsWord line.now from) }
+    ensures says { SaysAlways (λ r. r) result (entry_of_line entries RoundsWord line.now from) }
     ensures within { IfOk result (λ r. r.1 ≤ length line.now) }
     ensures small { IfOk result (λ r. IsSmall r.0) }
 {
@@ -164,7 +164,7 @@ fn combine_entry(
     requires within { from ≤ length line.now }
     requires short { length line.now < 2 ^ 32 }
     requires small { IsSmall entries }
-    ensures says { Says (λ r. r) result (entry_of_line entries CombineWord line.now from) }
+    ensures says { SaysAlways (λ r. r) result (entry_of_line entries CombineWord line.now from) }
     ensures within { IfOk result (λ r. r.1 ≤ length line.now) }
     ensures small { IfOk result (λ r. IsSmall r.0) }
 {

@@ -1,6 +1,6 @@
 // The fields of entries that are numbers.
 ghost use Rattle.std.specs.Prelude.{◌≡◌, ◌≤◌, ◌<◌, ◌^◌, length, IfOk};
-ghost use Rattle.text_words.specs.Says.{Says};
+ghost use Rattle.text_words.specs.Says.{SaysAlways};
 ghost use Rattle.vertex_lang.specs.Entries.{range_at as range_of_line};
 ghost use Rattle.vertex_lang.specs.Entries.{combine_at as combine_of_line};
 ghost use Rattle.vertex_lang.specs.Entries.{index_at as index_of_line, place_at as place_of_line};
@@ -19,7 +19,7 @@ pub fn range_at(
 ) -> Result<(LaneRange, usize), LangError>
     requires within { from ≤ length line.now }
     requires short { length line.now < 2 ^ 32 }
-    ensures says { Says (λ r. r) result (range_of_line line.now from lo_most hi_least) }
+    ensures says { SaysAlways (λ r. r) result (range_of_line line.now from lo_most hi_least) }
     ensures within { IfOk result (λ r. r.1 ≤ length line.now) }
 {
     let (lo, next) = signed_at(line, from, i64::MIN, lo_most)?;
@@ -32,7 +32,7 @@ pub fn range_at(
 pub fn combine_at(line: &[u8], from: usize) -> Result<(Combine, usize), LangError>
     requires within { from ≤ length line.now }
     requires short { length line.now < 2 ^ 32 }
-    ensures says { Says (λ r. r) result (combine_of_line line.now from) }
+    ensures says { SaysAlways (λ r. r) result (combine_of_line line.now from) }
     ensures within { IfOk result (λ r. r.1 ≤ length line.now) }
 {
     let word = word_at(line, from)?;
@@ -55,7 +55,7 @@ pub fn combine_at(line: &[u8], from: usize) -> Result<(Combine, usize), LangErro
 pub fn index_at(line: &[u8], from: usize, keyword: Keyword, next: usize) -> Result<usize, LangError>
     requires within { from ≤ length line.now }
     requires short { length line.now < 2 ^ 32 }
-    ensures says { Says (λ r. r) result (index_of_line line.now from keyword next) }
+    ensures says { SaysAlways (λ r. r) result (index_of_line line.now from keyword next) }
     ensures within { IfOk result (λ r. r ≤ length line.now) }
 {
     let word = word_at(line, from)?;
@@ -83,7 +83,7 @@ pub fn place_at(
 ) -> Result<usize, LangError>
     requires within { from ≤ length line.now }
     requires short { length line.now < 2 ^ 32 }
-    ensures says { Says (λ r. r) result (place_of_line line.now from keyword next lanes) }
+    ensures says { SaysAlways (λ r. r) result (place_of_line line.now from keyword next lanes) }
     ensures within { IfOk result (λ r. r ≤ length line.now) }
 {
     let word = word_at(line, from)?;
