@@ -14,7 +14,7 @@ use Rattle.std.proofs.lemmas.List.Elements.{recursion_from_All}
 use Rattle.bolt_base.specs.Graph.{Graph, Pair, pair_cmp, edge, edges, out_edges}
 use Rattle.bolt_base.specs.Plain.{entry}
 use Rattle.bolt_base.specs.declared.edge.Edge.{Edge}
-use Rattle.bolt_base.proofs.SortedKeys.{both, under, tied, untied}
+use Rattle.bolt_base.proofs.SortedKeys.{both_hold, is_lt-less, equal_tied, unequal_untied}
 use Rattle.bolt_base.proofs.PairOrder.{same_src, other_src}
 use Rattle.vertex_expr.specs.declared.program.ProgramEntries.{ProgramEntries}
 use Rattle.edge_map.specs.Additions.{no_source, source_at, is_added, stayed_out}
@@ -35,7 +35,7 @@ pair_before p q h =
     → T (is_lt (ordering_then r (nat_cmp p.1 q.1)))
     → (p.0 < q.0) ⊎ ((p.0 ≡ q.0) × (p.1 < q.1))) [
       | Less ↦ λ e _. inl (ranked p.0 q.0 Less (sym e))
-      | Equal ↦ λ e t. inr (ranked p.0 q.0 Equal (sym e), under p.1 q.1 t)
+      | Equal ↦ λ e t. inr (ranked p.0 q.0 Equal (sym e), is_lt-less p.1 q.1 t)
       | Greater ↦ λ e t. absurd t
     ] refl h
 
@@ -45,7 +45,7 @@ rises_at : (xs : List Source) (i j : ℕ) (d : Source) → SourcesRise xs → i 
 rises_at [] i j d s l h = absurd (omega arith)
 rises_at (x ∷ xs) i zero d s l h = absurd (omega arith)
 rises_at (x ∷ xs) zero (suc j) d s l h =
-    let b = both (below_all nat_cmp x.vertex (map (λ y. (y.vertex, y)) xs))
+    let b = both_hold (below_all nat_cmp x.vertex (map (λ y. (y.vertex, y)) xs))
     (is_sorted nat_cmp (map (λ y. (y.vertex, y)) xs)) s in
     lower xs j b.0 (omega arith)
   where
@@ -54,13 +54,13 @@ rises_at (x ∷ xs) zero (suc j) d s l h =
         → k < length ys → x.vertex < (get_or ys k d).vertex
     lower [] k t h = absurd (omega arith)
     lower (y ∷ ys) zero t h =
-        under x.vertex y.vertex (both (is_lt (nat_cmp x.vertex y.vertex))
+        is_lt-less x.vertex y.vertex (both_hold (is_lt (nat_cmp x.vertex y.vertex))
         (below_all nat_cmp x.vertex (map (λ z. (z.vertex, z)) ys)) t).0
     lower (y ∷ ys) (suc k) t h =
-        lower ys k (both (is_lt (nat_cmp x.vertex y.vertex))
+        lower ys k (both_hold (is_lt (nat_cmp x.vertex y.vertex))
         (below_all nat_cmp x.vertex (map (λ z. (z.vertex, z)) ys)) t).1 (omega arith)
 rises_at (x ∷ xs) (suc i) (suc j) d s l h =
-    let b = both (below_all nat_cmp x.vertex (map (λ y. (y.vertex, y)) xs))
+    let b = both_hold (below_all nat_cmp x.vertex (map (λ y. (y.vertex, y)) xs))
     (is_sorted nat_cmp (map (λ y. (y.vertex, y)) xs)) s in
     rises_at xs i j d b.1 (omega arith) (omega arith)
 
@@ -106,7 +106,7 @@ module _ (t : Tasks) (rise : SourcesRise t.sources) where
       → EdgesFrom x.source (x.edge.dst + 1) ys
   behind x [] p ps h = tt
   behind x (y ∷ ys) p ps h =
-      let b = both (is_lt (pair_cmp (x.edge.src, x.edge.dst) (y.edge.src, y.edge.dst)))
+      let b = both_hold (is_lt (pair_cmp (x.edge.src, x.edge.dst) (y.edge.src, y.edge.dst)))
       (below_all pair_cmp (x.edge.src, x.edge.dst) (map (λ z. entry z.edge) ys)) h in
       let order = pair_before (x.edge.src, x.edge.dst) (y.edge.src, y.edge.dst) b.0 in
       let a = p.source in
@@ -128,7 +128,7 @@ module _ (t : Tasks) (rise : SourcesRise t.sources) where
       → EdgesFrom k a xs → MineFrom k a xs
   mine k a [] s p f = tt
   mine k a (x ∷ xs) s p f =
-      let b = both (below_all pair_cmp (x.edge.src, x.edge.dst) (map (λ y. entry y.edge) xs))
+      let b = both_hold (below_all pair_cmp (x.edge.src, x.edge.dst) (map (λ y. entry y.edge) xs))
       (is_sorted pair_cmp (map (λ y. entry y.edge) xs)) s in
       let rest = behind x xs p.0 p.1 b.0 in
       elim (cases_eq x.source k) [
@@ -151,7 +151,7 @@ module _ (t : Tasks) (rise : SourcesRise t.sources) where
       → MineFrom k 0 (from_source k xs)
   from_is_mine k [] s p = tt
   from_is_mine k (x ∷ xs) s p =
-      let b = both (below_all pair_cmp (x.edge.src, x.edge.dst) (map (λ y. entry y.edge) xs))
+      let b = both_hold (below_all pair_cmp (x.edge.src, x.edge.dst) (map (λ y. entry y.edge) xs))
       (is_sorted pair_cmp (map (λ y. entry y.edge) xs)) s in
       elim (cases_lt x.source k) [
         | inl low ↦ rw (lt-ltb x.source k low) (from_is_mine k xs b.1 p.1)
@@ -199,7 +199,7 @@ below_ends : (k : Pair) (es : List (Pair × ℤ)) → T (below_all pair_cmp k es
     → AllByRecursion (λ (f : Pair × ℤ). f.0.0 ≡ k.0 → k.1 + 1 ≤ f.0.1) es
 below_ends k [] h = tt
 below_ends k (e ∷ es) h =
-    let b = both (is_lt (pair_cmp k e.0)) (below_all pair_cmp k es) h in (
+    let b = both_hold (is_lt (pair_cmp k e.0)) (below_all pair_cmp k es) h in (
       λ same. elim (pair_before k e.0 b.0) [
         | inl low ↦ absurd (omega arith)
         | inr even ↦ let d = even.1 in omega arith
@@ -212,7 +212,7 @@ ends_rise : (u a : ℕ) (es : List (Pair × ℤ)) → T (is_sorted pair_cmp es)
     → EndsFrom a (filter (λ e. eqb e.src u) (map edge es))
 ends_rise u a [] s h = tt
 ends_rise u a (e ∷ es) s h =
-    let b = both (below_all pair_cmp e.0 es) (is_sorted pair_cmp es) s in
+    let b = both_hold (below_all pair_cmp e.0 es) (is_sorted pair_cmp es) s in
     elim (cases_eq e.0.0 u) [
       | inl same ↦
           rw (eq-eqb e.0.0 u same)
@@ -228,8 +228,8 @@ ends_rise u a (e ∷ es) s h =
 
 end_test : (a d : ℕ) → eqb a d ≡ eq_by_cmp nat_cmp d a
 end_test a d = elim (cases_eq a d) [
-  | inl same ↦ eq-eqb a d same ∙ sym (tied d a (sym same))
-  | inr apart ↦ ne_eqb a d apart ∙ sym (untied d a (λ q. apart (sym q)))
+  | inl same ↦ eq-eqb a d same ∙ sym (equal_tied d a (sym same))
+  | inr apart ↦ ne_eqb a d apart ∙ sym (unequal_untied d a (λ q. apart (sym q)))
 ]
 
 end_found : (u d : ℕ) (es : List (Pair × ℤ))

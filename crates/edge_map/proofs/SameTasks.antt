@@ -21,7 +21,7 @@ use Rattle.run_model.specs.Rows.{contribute_env}
 use Rattle.run_model.specs.Steps.{Step, dirty, is_dirty, is_target, targets}
 use Rattle.run_model.specs.Visits.{item_visits, items_visits}
 use Rattle.run_model.proofs.InRange.{no_edge}
-use Rattle.run_model.proofs.Named.{named}
+use Rattle.run_model.proofs.Named.{named_is_target}
 use Rattle.edge_map.specs.Additions.{no_source, source_at, dirty_places, was_env, now_env, given}
 use Rattle.edge_map.specs.Additions.{change_gift, gifts, adds_of_gifts, ends_of_gifts, task_gifts}
 use Rattle.edge_map.specs.Additions.{task_adds, task_visits, visits}
@@ -249,7 +249,7 @@ ends_same p s t good are v =
     let both = any_times v (task_gifts p s.new_graph t) in
     let same : list_any (λ gift. eqb gift.dst v) (task_gifts p s.new_graph t)
     ≡ is_target p s v = ap (list_any (λ gift. eqb gift.dst v)) (gifts_same p s t are good)
-    ∙ named p s v in
+    ∙ named_is_target p s v in
     (λ h. sym same ∙ both.0 h, λ e. both.1 (same ∙ e))
 
 -- ---- visits

@@ -24,7 +24,7 @@ use Rattle.bolt_base.specs.declared.limits.Limits.{Limits}
 use Rattle.bolt_base.proofs.EdgeParts.{removed-filter, added-filter, old_edges_counted}
 use Rattle.bolt_base.proofs.EdgeParts.{stayed_out as stayed_out_filter}
 use Rattle.bolt_base.proofs.PairOrder.{same_src, other_src}
-use Rattle.bolt_base.proofs.SortedKeys.{both, tied, untied}
+use Rattle.bolt_base.proofs.SortedKeys.{both_hold, equal_tied, unequal_untied}
 use Rattle.vertex_expr.specs.ProgramBounds.{lane_spans}
 use Rattle.vertex_expr.specs.Span.{AreIn}
 use Rattle.vertex_expr.specs.declared.program.ProgramEntries.{ProgramEntries}
@@ -45,7 +45,7 @@ use Rattle.edge_map.proofs.Unadded.{filter_alike}
 
 -- ---- entries are found
 pair_itself : (q : Pair) → eq_by_cmp pair_cmp q q ≡ true
-pair_itself q = same_src q.0 q.1 q.0 q.1 refl ∙ tied q.1 q.1 refl
+pair_itself q = same_src q.0 q.1 q.0 q.1 refl ∙ equal_tied q.1 q.1 refl
 
 pair_behind : (p q : Pair) → T (is_lt (pair_cmp p q)) → eq_by_cmp pair_cmp q p ≡ false
 pair_behind p q h = elim (pair_before p q h) [
@@ -53,14 +53,14 @@ pair_behind p q h = elim (pair_before p q h) [
   | inr even ↦
       let s = even.0 in
       let d = even.1 in
-      same_src q.0 q.1 p.0 p.1 (sym s) ∙ untied q.1 p.1 (λ e. omega arith)
+      same_src q.0 q.1 p.0 p.1 (sym s) ∙ unequal_untied q.1 p.1 (λ e. omega arith)
 ]
 
 all_found : (es : List (Pair × ℤ)) → T (is_sorted pair_cmp es)
     → AllByRecursion (λ (f : Pair × ℤ). find pair_cmp f.0 es ≡ Some f.1) es
 all_found [] s = tt
 all_found (e ∷ es) s =
-    let b = both (below_all pair_cmp e.0 es) (is_sorted pair_cmp es) s in (
+    let b = both_hold (below_all pair_cmp e.0 es) (is_sorted pair_cmp es) s in (
       ap (λ t. cond t (Some e.1) (find pair_cmp e.0 es)) (pair_itself e.0),
       behind es b.0 (all_found es b.1),
     )
@@ -70,7 +70,7 @@ all_found (e ∷ es) s =
         → AllByRecursion (λ (f : Pair × ℤ). find pair_cmp f.0 (e ∷ es) ≡ Some f.1) fs
     behind [] t h = tt
     behind (f ∷ fs) t h =
-        let b = both (is_lt (pair_cmp e.0 f.0)) (below_all pair_cmp e.0 fs) t in (
+        let b = both_hold (is_lt (pair_cmp e.0 f.0)) (below_all pair_cmp e.0 fs) t in (
           ap (λ o. cond o (Some e.1) (find pair_cmp f.0 es)) (pair_behind e.0 f.0 b.0) ∙ h.0,
           behind fs b.1 h.1,
         )
