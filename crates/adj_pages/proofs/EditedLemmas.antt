@@ -1,13 +1,11 @@
 -- Edits of a row page by page.
-use Rattle.std.proofs.Common.{◌≡◌, ℕ, ℤ, pos, zero, suc, inl, inr, ◌+◌, ◌-◌, ◌<◌, ◌≤◌, T, List, [], ◌∷◌, ◌++◌, length, take, drop, Option, refl, sym, ap, ◌∙◌, subst, arith}
-use Rattle.std.specs.Ordering.{nat_cmp}
+use Rattle.std.proofs.Common.{◌≡◌, ℕ, ℤ, suc, inl, inr, ◌+◌, ◌-◌, ◌<◌, ◌≤◌, List, [], ◌++◌, length, take, drop, Option, refl, sym, ap, ◌∙◌, subst, arith}
 use Rattle.std.specs.List.{All}
 use Rattle.std.specs.FinMap as finite
-use Rattle.std.specs.FinMap.{is_sorted}
 use Rattle.std.proofs.lemmas.Bool.{cases_lt}
 use Rattle.std.proofs.lemmas.List.{take_all}
 use Rattle.std.proofs.lemmas.List.Elements.{All-nil, All-weaker, All-take}
-use Rattle.adjacency.specs.Row.{RowMap, row_map, IsRow}
+use Rattle.adjacency.specs.Row.{RowMap, IsRow}
 use Rattle.adjacency.specs.Merge.{merged}
 use Rattle.adjacency.proofs.RowLemmas.{entries_row, map_nil}
 use Rattle.adjacency.proofs.PatchLemmas.{row_merged}

@@ -1,8 +1,6 @@
 -- Rows as pages.
-use Rattle.std.proofs.Common.{◌≡◌, ℕ, ℤ, ◌+◌, ◌-◌, ◌<◌, ◌≤◌, T, List, [], ◌∷◌, ◌++◌, length, take, drop, Option, sym, ap, ◌∙◌, subst, arith, length-take, length-drop}
-use Rattle.std.specs.Ordering.{nat_cmp}
+use Rattle.std.proofs.Common.{◌≡◌, ℕ, ℤ, ◌+◌, ◌-◌, ◌<◌, ◌≤◌, List, [], ◌∷◌, ◌++◌, length, take, drop, Option, sym, ap, ◌∙◌, arith, length-take, length-drop}
 use Rattle.std.specs.FinMap as finite
-use Rattle.std.specs.FinMap.{is_sorted}
 use Rattle.adjacency.specs.Row.{RowMap, row_map, IsRow}
 use Rattle.adjacency.specs.Merge.{merged}
 use Rattle.adjacency.specs.Patched.{merged_row}

@@ -1,8 +1,7 @@
 -- Rows and rows with places, by their maps.
-use Rattle.std.proofs.Common.{◌≡◌, ℕ, ℤ, ◌+◌, ◌<◌, ◌≤◌, List, [], ◌∷◌, ◌++◌, map, length, get_or, set, replicate, reverse, take, refl, sym, ap, ◌∙◌, subst, arith, append_assoc, append-nil, length-append}
+use Rattle.std.proofs.Common.{◌≡◌, ℕ, ◌+◌, ◌<◌, ◌≤◌, List, [], ◌∷◌, ◌++◌, map, length, get_or, set, reverse, refl, sym, ap, ◌∙◌, subst, arith, append_assoc}
 use Rattle.std.specs.FinMap as finite
-use Rattle.std.specs.List.{All}
-use Rattle.std.proofs.lemmas.List.{map-set, map-append, length-map, get_or-map, get_or_past, reverse-append, take-append-le, length-replicate}
+use Rattle.std.proofs.lemmas.List.{map-set, map-append, length-map, get_or-map, get_or_past, reverse-append}
 use Rattle.std.proofs.lemmas.List.Elements.{All-map}
 use Rattle.swaps.specs.Swaps.{put_all, undo, AreInside}
 use Rattle.adjacency.specs.Row.{RowMap}

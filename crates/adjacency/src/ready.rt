@@ -9,6 +9,7 @@ ghost use Rattle.adjacency.specs.Planned.{IsOver};
 ghost use Rattle.adjacency.specs.Refusal.{IsRefusal};
 ghost use Rattle.adjacency.specs.ReadyFor.{IsReady};
 ghost use Rattle.adjacency.specs.Finished.{IsFinished};
+ghost use Rattle.adjacency.specs.declared.change.TheConstants.{MOST_EDITS};
 
 use crate::arcs::Arcs;
 use crate::attr_draft::AttrDraft;
@@ -48,7 +49,7 @@ pub fn plan_edits<R: Arcs + Drop>(
     requires mirrored { AreMirrored (length attrs.now) out.now into.now }
     requires count { edges ≡ finite.len (weights_of out.now) }
     requires good { IsGood limits (plain_of attrs.now out.now) }
-    requires few { length edits.now ≤ 1000000 }
+    requires few { length edits.now ≤ MOST_EDITS }
     ensures ok { IfOk result (IsReady limits attrs.now out.now into.now edits.now) }
     ensures err { IfErr result (IsRefusal limits (plain_of attrs.now out.now) edits.now) }
 {

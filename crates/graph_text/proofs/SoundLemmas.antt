@@ -16,7 +16,7 @@ use Rattle.bolt_base.specs.declared.limits.LineCause.TheVariants.{Syntax, Vertex
 use Rattle.bolt_base.specs.Graph.{Graph, Weights, IsBetween, IsGood, edges, outdeg, indeg}
 use Rattle.bolt_base.specs.Edits.{unless, is_between}
 use Rattle.bolt_base.proofs.EditLemmas.{length_added, outdeg_added, indeg_added, All-added}
-use Rattle.bolt_base.proofs.GoodLemmas.{between, good_addition}
+use Rattle.bolt_base.proofs.GoodLemmas.{is_between-true, good_addition}
 use Rattle.graph_text.specs.GraphText.{Draft, bound, drafted, cause, taken_in, complete}
 use Rattle.graph_text.specs.declared.graph_lines.GraphLine.{GraphLine}
 use Rattle.graph_text.specs.declared.graph_lines.GraphLine.TheVariants.{Empty, Vertices, Attr}
@@ -76,7 +76,7 @@ sound_attr l d u a good so_far =
       few_vertices = so_far.few_vertices;
       named = omega arith;
       attrs =
-          λ v b. pick v b (nat_eq v u) (between l.attr_lo l.attr_hi a range.0) (so_far.attrs v b);
+          λ v b. pick v b (nat_eq v u) (is_between-true l.attr_lo l.attr_hi a range.0) (so_far.attrs v b);
       few_edges = so_far.few_edges;
       weights = so_far.weights;
       ends =

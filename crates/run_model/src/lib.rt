@@ -6,7 +6,7 @@ mod laws;
 mod numbers;
 mod plain;
 
-pub use given::is_weightless;
+pub use given::{Contributions, is_weightless};
 pub use laws::{
     bounds_are_evaluable, changes_are_known, kept_is_least, logs_stay_right, numbers_fit,
     others_stay, rows_are_computed, rows_are_in_range, rows_are_refined, sums_are_refined,

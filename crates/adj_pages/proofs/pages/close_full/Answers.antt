@@ -1,4 +1,4 @@
-use Rattle.std.proofs.Common.{◌≡◌, ◌++◌, ap, sym, ◌∙◌, arith}
+use Rattle.std.proofs.Common.{◌≡◌, ◌++◌, ap, ◌∙◌, arith}
 use Rattle.std.specs.FinMap as finite
 use Rattle.std.proofs.lemmas.List.{append-nil}
 use Rattle.adj_pages.specs.Index.{joined}

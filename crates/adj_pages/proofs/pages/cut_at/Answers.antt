@@ -1,4 +1,4 @@
-use Rattle.std.proofs.Common.{ℕ, ℤ, ◌<◌, ◌+◌, Option, None, arith}
+use Rattle.std.proofs.Common.{ℕ, ℤ, ◌<◌, Option, None, arith}
 use Rattle.std.proofs.lemmas.List.Elements.{All-more}
 use Rattle.adj_pages.proofs.SortedLemmas.{sorted_drop_from}
 use Rattle.adj_pages.proofs.pages.cut_at.Goals as goal

@@ -1,4 +1,4 @@
-use Rattle.std.proofs.Common.{length, arith, refl, ◌+◌}
+use Rattle.std.proofs.Common.{arith, refl, ◌+◌}
 use Rattle.std.proofs.lemmas.List.{length-map}
 use Rattle.adj_pages.specs.Marked.{mark, marks}
 use Rattle.adj_pages.proofs.IndexLemmas.{next_before, last_before}

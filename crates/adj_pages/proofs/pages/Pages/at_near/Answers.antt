@@ -1,10 +1,10 @@
-use Rattle.std.proofs.Common.{◌≡◌, ◌<◌, ◌-◌, ap, sym, ◌∙◌, length, arith, subst}
+use Rattle.std.proofs.Common.{◌-◌, ap, sym, ◌∙◌, length, arith, subst}
 use Rattle.std.proofs.lemmas.List.{length-map}
 use Rattle.std.specs.FinMap as finite
 use Rattle.std.specs.List.{slice_get}
-use Rattle.adj_pages.specs.Index.{Mark, mark_at, IsPlaceOf}
+use Rattle.adj_pages.specs.Index.{mark_at, IsPlaceOf}
 use Rattle.adj_pages.specs.Marked.{mark, marks}
-use Rattle.adj_pages.proofs.IndexLemmas.{begins, some_page, len_index, place_inside, place_gives}
+use Rattle.adj_pages.proofs.IndexLemmas.{some_page, len_index, place_inside, place_gives}
 use Rattle.adj_pages.proofs.pages.Pages.at_near.Goals as goal
 
 pub place_near-i-requires-clause-some : goal.place_near-i-requires-clause-some

@@ -1,8 +1,6 @@
-use Rattle.std.proofs.Common.{ap, sym, ◌∙◌, subst, length, arith, zero}
-use Rattle.std.specs.Ordering.{nat_cmp}
+use Rattle.std.proofs.Common.{ap, sym, ◌∙◌, subst, length, arith}
 use Rattle.std.specs.FinMap as finite
 use Rattle.std.proofs.lemmas.List.{length-map}
-use Rattle.std.proofs.lemmas.Bool.{cases_lt}
 use Rattle.adj_pages.specs.Index.{mark_at, IsPlaceFor}
 use Rattle.adj_pages.specs.Marked.{mark, marks}
 use Rattle.adj_pages.proofs.IndexLemmas.{len_index, some_page, place_finds, nothing_there}

@@ -1,9 +1,9 @@
-use Rattle.std.proofs.Common.{◌≡◌, ◌++◌, ◌+◌, refl, ap, sym, ◌∙◌, arith, subst, length}
+use Rattle.std.proofs.Common.{◌++◌, ◌+◌, refl, ap, sym, ◌∙◌, arith, subst}
 use Rattle.std.specs.FinMap as finite
 use Rattle.std.specs.Arc.{arc_value}
 use Rattle.adjacency.specs.Row.{row_map, IsRow}
 use Rattle.adj_pages.specs.Index.{Mark, marked, IsIndex, IsPlaced}
-use Rattle.adj_pages.specs.Marked.{mark, marks}
+use Rattle.adj_pages.specs.Marked.{marks}
 use Rattle.adj_pages.proofs.IndexLemmas.{index_push, index_entries, index_pushed}
 use Rattle.adj_pages.proofs.MarkLemmas.{marks_push}
 use Rattle.adj_pages.proofs.pages.Pages.push.Goals as goal

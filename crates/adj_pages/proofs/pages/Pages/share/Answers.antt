@@ -1,9 +1,8 @@
-use Rattle.std.proofs.Common.{◌≡◌, ap, sym, ◌∙◌, length, arith}
+use Rattle.std.proofs.Common.{ap, sym, ◌∙◌, arith}
 use Rattle.std.specs.FinMap as finite
-use Rattle.std.specs.Arc.{arc_value}
 use Rattle.std.proofs.lemmas.List.{length-map}
 use Rattle.adjacency.specs.Row.{end_at}
-use Rattle.adj_pages.specs.Index.{Mark, mark_at}
+use Rattle.adj_pages.specs.Index.{Mark}
 use Rattle.adj_pages.specs.Marked.{mark, marks}
 use Rattle.adj_pages.proofs.IndexLemmas.{at_place}
 use Rattle.adj_pages.proofs.MarkLemmas.{mark_read}

@@ -1,11 +1,10 @@
-use Rattle.std.proofs.Common.{ap, sym, ◌∙◌, ◌≡◌, ℕ, ℤ, ◌≤◌, List, ◌++◌, length, take, replicate, pos, subst, arith, length-append}
+use Rattle.std.proofs.Common.{ap, sym, ◌∙◌, ◌≡◌, ℕ, ℤ, List, ◌++◌, length, take, replicate, pos, subst, arith}
 use Rattle.std.specs.FinMap as finite
 use Rattle.std.proofs.lemmas.List.{take-append-le, take_all}
 use Rattle.swaps.specs.Swaps.{put_all, undo}
 use Rattle.bolt_base.specs.Graph.{Graph as Plain, IsGood}
 use Rattle.adjacency.specs.Row.{RowMap}
-use Rattle.adjacency.specs.Rows.{weights_of, full_of, AreMirrored}
-use Rattle.adjacency.specs.DraftedAttrs.{full_attrs}
+use Rattle.adjacency.specs.Rows.{weights_of, AreMirrored}
 use Rattle.adjacency.specs.PlainOf.{plain_of}
 use Rattle.adjacency.specs.Made.{IsMade, fresh_attrs, fresh_out, fresh_into}
 use Rattle.adjacency.proofs.PutLemmas.{length_full}

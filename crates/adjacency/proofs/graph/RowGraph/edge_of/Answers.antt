@@ -1,8 +1,6 @@
 use Rattle.std.proofs.Common.{ap, sym, ◌∙◌, ◌≡◌, Some, rules, FitsSigned, w64, to_z, of_z}
 use Rattle.std.proofs.lemmas.Int.{to_z-of_z}
-use Rattle.std.specs.FinMap as finite
-use Rattle.adjacency.specs.Rows.{row_at}
-use Rattle.adjacency.specs.Found.{edge_at, with_weight}
+use Rattle.bolt_base.specs.EdgeAt.{edge_at, with_weight}
 use Rattle.adjacency.specs.State.{State}
 use Rattle.adjacency.proofs.PlainLemmas.{edge_in_row}
 use Rattle.adjacency.proofs.graph.RowGraph.edge_of.Goals as goal

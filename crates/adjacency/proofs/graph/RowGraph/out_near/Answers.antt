@@ -1,4 +1,4 @@
-use Rattle.std.proofs.Common.{ℤ, ap, sym, ◌∙◌, ◌≡◌, arith, length, slice_get, Some, rules, FitsSigned, w64, to_z, of_z}
+use Rattle.std.proofs.Common.{ℤ, ap, sym, ◌∙◌, ◌≡◌, arith, slice_get, Some, rules, FitsSigned, w64, to_z, of_z}
 use Rattle.std.proofs.lemmas.Int.{to_z-of_z}
 use Rattle.bolt_base.specs.Graph.{outdeg, out_edges}
 use Rattle.bolt_base.specs.declared.edge.Edge.{Edge}

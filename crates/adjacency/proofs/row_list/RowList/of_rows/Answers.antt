@@ -1,4 +1,4 @@
-use Rattle.std.proofs.Common.{ap, sym, ◌∙◌, ◌++◌, map, reverse, append-nil}
+use Rattle.std.proofs.Common.{ap, sym, ◌∙◌, ◌++◌, map, reverse}
 use Rattle.std.proofs.lemmas.List.{reverse-reverse}
 use Rattle.adjacency.proofs.RowListLemmas.{moved_more}
 use Rattle.adjacency.proofs.row_list.RowList.of_rows.Goals as goal

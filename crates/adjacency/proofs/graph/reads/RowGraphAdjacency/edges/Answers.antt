@@ -2,7 +2,7 @@ use Rattle.std.proofs.Common.{ap, sym, ◌∙◌, length}
 use Rattle.bolt_base.specs.Graph.{edges}
 use Rattle.adjacency.specs.PlainOf.{plain_of}
 use Rattle.adjacency.specs.State.{State}
-use Rattle.adjacency.proofs.PlainLemmas.{edge_count}
+use Rattle.bolt_base.proofs.BareGraphs.{edge_count}
 use Rattle.adjacency.proofs.graph.reads.RowGraphAdjacency.edges.Goals as goal
 
 pub returns : goal.returns

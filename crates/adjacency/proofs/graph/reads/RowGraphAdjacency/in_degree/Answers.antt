@@ -1,7 +1,5 @@
 use Rattle.std.proofs.Common.{ap, sym, ◌∙◌, arith, rules, Fits, w32, length}
-use Rattle.std.specs.FinMap as finite
 use Rattle.bolt_base.specs.Graph.{indeg}
-use Rattle.adjacency.specs.Rows.{row_at}
 use Rattle.adjacency.specs.State.{State}
 use Rattle.adjacency.proofs.PlainLemmas.{indeg_row}
 use Rattle.adjacency.proofs.graph.reads.RowGraphAdjacency.in_degree.Goals as goal

@@ -1,7 +1,5 @@
 use Rattle.std.proofs.Common.{ap, sym, ◌∙◌, arith, rules, Fits, w32}
-use Rattle.std.specs.FinMap as finite
 use Rattle.bolt_base.specs.Graph.{outdeg}
-use Rattle.adjacency.specs.Rows.{row_at}
 use Rattle.adjacency.specs.State.{State}
 use Rattle.adjacency.proofs.PlainLemmas.{outdeg_row}
 use Rattle.adjacency.proofs.graph.reads.RowGraphAdjacency.out_degree.Goals as goal
