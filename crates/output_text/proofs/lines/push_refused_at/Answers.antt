@@ -14,7 +14,7 @@ returns c =
     let bad = c.args.bad.now in
     four_pieces c.args.out.now (labelled (codes " refused line ") bad.line) (codes " ")
     (cause_word bad.cause) (codes "\n")
-    _ _ _ _ c.in_ok-push_labelled.ensures c.in_ok-extend_from_slice.ensures
-    (c.in_ok-extend_from_slice-2.ensures
+    _ _ _ _ c.in_ok-push_labelled.ensures c.in_ok-extend_from_slice.ensures.ok
+    (c.in_ok-extend_from_slice-2.ensures.ok
     ∙ ap (λ (w : List ℕ). c.extend_from_slice.new.self ++ w) c.cause_word.ensures)
-    c.in_ok-extend_from_slice-3.ensures
+    c.in_ok-extend_from_slice-3.ensures.ok
