@@ -24,8 +24,9 @@ use bolt_base::{Edit, Limits};
 use std::alloc::{AllocError, Global};
 use std::collections::BTreeMap;
 
-/// What a batch of edits makes of a graph, however its rows are stored: new attributes with their places, how many
-/// vertices are new, what becomes of the rows out and in, the number of edges, and the net change.
+/// What a batch of edits makes of a graph, however its rows are stored: new attributes with their
+/// places, how many vertices are new, what becomes of the rows out and in, the number of edges, and
+/// the net change.
 #[derive(Drop)]
 pub struct Ready {
     pub attrs: Vec<(u32, i64)>,
@@ -82,7 +83,8 @@ pub fn plan_edits<R: Arcs + Drop>(
 fn finish<R: Arcs + Drop>(alloc: Global, plan: Plan<'_, R>) -> Result<Ready, AllocError>
     requires narrow { (u : ℕ) → finite.len (row_at plan.out.full u) < 2 ^ 32 }
     requires even { length plan.attrs.now ≡ length plan.out.rows }
-    ensures { (attrs : List ℤ) (out into : List RowMap) → IsOver attrs out into plan.entry → IfOk result (IsFinished attrs out into plan.entry) }
+    ensures { (attrs : List ℤ) (out into : List RowMap) → IsOver attrs out into plan.entry
+        → IfOk result (IsFinished attrs out into plan.entry) }
 {
     let Plan {
         attrs,

@@ -8,11 +8,14 @@ pub overflow_cast-result : goal.overflow_cast-result
 overflow_cast-result g c =
     let narrow : Fits w32 c.self.inside.limits.degree = search rules in
     let few = c.self.invariant.good.in_degrees c.args.v in
-    let row = indeg_row c.self.inside.attrs.items (length c.self.inside.attrs.items) c.self.inside.out c.self.inside.into c.self.invariant.mirrored c.args.v in
+    let row = indeg_row c.self.inside.attrs.items (length c.self.inside.attrs.items)
+    c.self.inside.out c.self.inside.into c.self.invariant.mirrored c.args.v in
     let read = c.degree.ensures in
     omega arith
 
 pub returns : goal.returns
 returns g c =
     c.degree.ensures
-    ∙ sym (indeg_row c.self.inside.attrs.items (length c.self.inside.attrs.items) c.self.inside.out c.self.inside.into c.self.invariant.mirrored c.args.v) ∙ ap (λ (s : State). indeg s.now c.args.v) c.self.view_is
+    ∙ sym (indeg_row c.self.inside.attrs.items (length c.self.inside.attrs.items) c.self.inside.out
+    c.self.inside.into c.self.invariant.mirrored c.args.v)
+    ∙ ap (λ (s : State). indeg s.now c.args.v) c.self.view_is
