@@ -7,27 +7,27 @@ use Rattle.std.specs.List.{All}
 use Rattle.std.specs.FinMap.Entries.{is_sorted, below_all}
 use Rattle.std.proofs.lemmas.List.{take-append-drop}
 use Rattle.std.proofs.lemmas.List.Elements.{All-nil, All-cons}
-use Rattle.bolt_base.proofs.SortedKeys.{both, join, under}
+use Rattle.bolt_base.proofs.SortedKeys.{both_hold, and_holds, is_lt-less}
 
 below_prefix : {X : Type 0} (k : ℕ) (xs ys : List (ℕ × X)) → T (below_all nat_cmp k (xs ++ ys))
     → T (below_all nat_cmp k xs)
 below_prefix k [] ys h = tt
-below_prefix k (x ∷ xs) ys h = let b = both (is_lt (nat_cmp k x.0))
-    (below_all nat_cmp k (xs ++ ys)) h in join (is_lt (nat_cmp k x.0)) (below_all nat_cmp k xs) b.0
+below_prefix k (x ∷ xs) ys h = let b = both_hold (is_lt (nat_cmp k x.0))
+    (below_all nat_cmp k (xs ++ ys)) h in and_holds (is_lt (nat_cmp k x.0)) (below_all nat_cmp k xs) b.0
     (below_prefix k xs ys b.1)
 
 pub sorted_prefix : {X : Type 0} (xs ys : List (ℕ × X)) → T (is_sorted nat_cmp (xs ++ ys))
     → T (is_sorted nat_cmp xs)
 sorted_prefix [] ys h = tt
-sorted_prefix (x ∷ xs) ys h = let b = both (below_all nat_cmp x.0 (xs ++ ys))
-    (is_sorted nat_cmp (xs ++ ys)) h in join (below_all nat_cmp x.0 xs) (is_sorted nat_cmp xs)
+sorted_prefix (x ∷ xs) ys h = let b = both_hold (below_all nat_cmp x.0 (xs ++ ys))
+    (is_sorted nat_cmp (xs ++ ys)) h in and_holds (below_all nat_cmp x.0 xs) (is_sorted nat_cmp xs)
     (below_prefix x.0 xs ys b.0) (sorted_prefix xs ys b.1)
 
 pub sorted_suffix : {X : Type 0} (xs ys : List (ℕ × X)) → T (is_sorted nat_cmp (xs ++ ys))
     → T (is_sorted nat_cmp ys)
 sorted_suffix [] ys h = h
 sorted_suffix (x ∷ xs) ys h = sorted_suffix xs ys
-    (both (below_all nat_cmp x.0 (xs ++ ys)) (is_sorted nat_cmp (xs ++ ys)) h).1
+    (both_hold (below_all nat_cmp x.0 (xs ++ ys)) (is_sorted nat_cmp (xs ++ ys)) h).1
 
 pub sorted_take : {X : Type 0} (n : ℕ) (xs : List (ℕ × X)) → T (is_sorted nat_cmp xs)
     → T (is_sorted nat_cmp (take n xs))
@@ -44,9 +44,9 @@ sorted_from : {X : Type 0} (x : ℕ) (e : ℕ × X) (es : List (ℕ × X)) → T
 sorted_from {X} x e [] h l = All-cons (λ (a : ℕ × X). x ≤ a.0) e [] l
     (All-nil (λ (a : ℕ × X). x ≤ a.0))
 sorted_from {X} x e (f ∷ fs) h l =
-    let b = both (below_all nat_cmp e.0 (f ∷ fs)) (is_sorted nat_cmp (f ∷ fs)) h in
-    let up : e.0 < f.0 = under e.0 f.0
-    (both (is_lt (nat_cmp e.0 f.0)) (below_all nat_cmp e.0 fs) b.0).0 in
+    let b = both_hold (below_all nat_cmp e.0 (f ∷ fs)) (is_sorted nat_cmp (f ∷ fs)) h in
+    let up : e.0 < f.0 = is_lt-less e.0 f.0
+    (both_hold (is_lt (nat_cmp e.0 f.0)) (below_all nat_cmp e.0 fs) b.0).0 in
     All-cons (λ (a : ℕ × X). x ≤ a.0) e (f ∷ fs) l (sorted_from x f fs b.1 (omega (arith, l, up)))
 
 -- all from a place on are at least x, if the one there is
@@ -56,7 +56,7 @@ pub sorted_drop_from : {X : Type 0} (x at : ℕ) (es : List (ℕ × X)) (d : ℕ
 sorted_drop_from x at [] d h l m = absurd (omega arith)
 sorted_drop_from x zero (e ∷ es) d h l m = sorted_from x e es h m
 sorted_drop_from x (suc at) (e ∷ es) d h l m = sorted_drop_from x at es d
-    (both (below_all nat_cmp e.0 es) (is_sorted nat_cmp es) h).1 (omega arith) m
+    (both_hold (below_all nat_cmp e.0 es) (is_sorted nat_cmp es) h).1 (omega arith) m
 
 empty_take : {X : Type 0} (m : ℕ) → ◌≡◌ {A = List X} (take m []) []
 empty_take zero = refl
