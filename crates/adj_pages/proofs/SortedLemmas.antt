@@ -13,7 +13,8 @@ below_prefix : {X : Type 0} (k : ℕ) (xs ys : List (ℕ × X)) → T (below_all
     → T (below_all nat_cmp k xs)
 below_prefix k [] ys h = tt
 below_prefix k (x ∷ xs) ys h = let b = both_hold (is_lt (nat_cmp k x.0))
-    (below_all nat_cmp k (xs ++ ys)) h in and_holds (is_lt (nat_cmp k x.0)) (below_all nat_cmp k xs) b.0
+    (below_all nat_cmp k (xs ++ ys)) h in and_holds (is_lt (nat_cmp k x.0))
+    (below_all nat_cmp k xs) b.0
     (below_prefix k xs ys b.1)
 
 pub sorted_prefix : {X : Type 0} (xs ys : List (ℕ × X)) → T (is_sorted nat_cmp (xs ++ ys))

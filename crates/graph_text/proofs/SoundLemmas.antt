@@ -76,7 +76,8 @@ sound_attr l d u a good so_far =
       few_vertices = so_far.few_vertices;
       named = omega arith;
       attrs =
-          λ v b. pick v b (nat_eq v u) (is_between-true l.attr_lo l.attr_hi a range.0) (so_far.attrs v b);
+          λ v b. pick v b (nat_eq v u) (is_between-true l.attr_lo l.attr_hi a range.0)
+          (so_far.attrs v b);
       few_edges = so_far.few_edges;
       weights = so_far.weights;
       ends =
