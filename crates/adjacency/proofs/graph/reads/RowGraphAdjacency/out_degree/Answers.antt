@@ -15,4 +15,5 @@ overflow_cast-result g c =
 pub returns : goal.returns
 returns g c =
     c.degree.ensures
-    ∙ sym (outdeg_row c.self.inside.attrs.items c.self.inside.out c.args.u) ∙ ap (λ (s : State). outdeg s.now c.args.u) c.self.view_is
+    ∙ sym (outdeg_row c.self.inside.attrs.items c.self.inside.out c.args.u)
+    ∙ ap (λ (s : State). outdeg s.now c.args.u) c.self.view_is
