@@ -1,5 +1,7 @@
--- An index over pages: the arcs of a row in a list of pages, with the first end and the place of each page.
-use Rattle.std.specs.Prelude.{◌≡◌, ℕ, ℤ, suc, ◌+◌, ◌<◌, ◌≤◌, List, [], ◌∷◌, ◌++◌, length, take, drop, slice_index_or}
+-- An index over pages: the arcs of a row in a list of pages, with the first end and the place of
+-- each page.
+use Rattle.std.specs.Prelude.{◌≡◌, ℕ, ℤ, suc, ◌+◌, ◌<◌, ◌≤◌, List, [], ◌∷◌, ◌++◌, length, take}
+use Rattle.std.specs.Prelude.{drop, slice_index_or}
 use Rattle.std.specs.List.{All}
 use Rattle.std.specs.FinMap as finite
 use Rattle.adjacency.specs.Row.{RowMap, IsRow, end_at}
@@ -57,7 +59,8 @@ pub record IsCut {X : Type 0} (x at : ℕ) (edits : List (ℕ × X)) : Type 0 wh
   pub above : All (λ e. x ≤ e.0) (drop at edits)
 
 -- the edits of the pages up to the i-th are those before the place
-pub record IsNextCut {X : Type 0} (ms : List Mark) (i : ℕ) (edits : List (ℕ × X)) (from at : ℕ) : Type 0 where
+pub record IsNextCut {X : Type 0} (ms : List Mark) (i : ℕ) (edits : List (ℕ × X)) (from at : ℕ) :
+    Type 0 where
   pub later : from ≤ at
   pub within : at ≤ length edits
   pub cut : suc i < length ms → IsCut (mark_at ms (suc i)).first at edits

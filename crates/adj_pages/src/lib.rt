@@ -1,5 +1,6 @@
-//! The graph that changes by batches of edits, in pages. A row's arcs stand on pages of at most 64 that the row before a
-//! change and the row after it share, so that a change makes only the pages anew that it touches. No clause sees pages.
+//! The graph that changes by batches of edits, in pages. A row's arcs stand on pages of at most 64
+//! that the row before a change and the row after it share, so that a change makes only the pages
+//! anew that it touches. No clause sees pages.
 #![tactic(auto)]
 
 mod page;
@@ -13,3 +14,6 @@ pub use pages::MOST_PAGES;
 
 /// The graph whose rows stand on pages. It has the calls, the traits and the contracts of `Graph`.
 pub type PagedGraph = RowGraph<PagedRow>;
+
+#[cfg(test)]
+mod tests;

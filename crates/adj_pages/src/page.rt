@@ -44,7 +44,8 @@ impl Page for Row {
     }
 }
 
-/// The arcs of a row on pages. What is too long for one page is split into halves, or into several pages with room.
+/// The arcs of a row on pages. What is too long for one page is split into halves, or into several
+/// pages with room.
 pub fn pages_of(alloc: Global, row: Row) -> Result<Vec<Row>, AllocError>
     ensures arcs { IfOk result (λ v. joined v.items ≡ finite.entries row) }
     ensures some { IfOk result (λ v. All (λ p. 0 < finite.len p) v.items) }

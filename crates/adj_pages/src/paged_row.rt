@@ -10,14 +10,16 @@ use adjacency::{Arcs, Near, Row};
 use std::alloc::{AllocError, Global};
 use std::marker::Model;
 
-// A row that fits a page is that page. Another one has an index of lists of pages, each with an index of its own.
+// A row that fits a page is that page. Another one has an index of lists of pages, each with an
+// index of its own.
 #[derive(Drop)]
 enum Form {
     One(Row),
     Many(Box<Pages<Pages<Row>>>),
 }
 
-/// The other ends of a vertex's edges, rising, with the weights, in pages. Contracts see a finite map.
+/// The other ends of a vertex's edges, rising, with the weights, in pages. Contracts see a finite
+/// map.
 #[derive(Drop)]
 pub struct PagedRow {
     form: Form,

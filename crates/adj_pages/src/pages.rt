@@ -1,11 +1,13 @@
 // Arcs in shared pages.
-ghost use Rattle.std.specs.Prelude.{◌≡◌, true, suc, take, ◌<◌, ◌≤◌, ◌+◌, ◌++◌, Some, slice_get, length, IfOk, OnOk, OnErr, map};
+ghost use Rattle.std.specs.Prelude.{◌≡◌, true, suc, take, ◌<◌, ◌≤◌, ◌+◌, ◌++◌, Some, slice_get};
+ghost use Rattle.std.specs.Prelude.{length, IfOk, OnOk, OnErr, map};
 ghost use Rattle.std.specs.List.{All};
 ghost use Rattle.std.specs.FinMap as finite;
 ghost use Rattle.std.specs.Arc.{arc_value};
 ghost use Rattle.adjacency.specs.Row.{RowMap, IsRow, end_at};
 ghost use Rattle.adjacency.specs.Merge.{IsPatch, merged};
-ghost use Rattle.adj_pages.specs.Index.{joined, mark_at, IsIndex, IsPlaceOf, IsPlaceFor, IsCut, IsNextCut};
+ghost use Rattle.adj_pages.specs.Index.{joined, mark_at, IsIndex, IsPlaceOf, IsPlaceFor, IsCut};
+ghost use Rattle.adj_pages.specs.Index.{IsNextCut};
 ghost use Rattle.adj_pages.specs.Marked.{marks};
 
 use std::alloc::{AllocError, Global};
@@ -30,7 +32,8 @@ pub trait Page: Drop {
         requires { k < finite.len (arcs self.now) }
         ensures { slice_get (finite.entries (arcs self.now)) k ≡ Some result };
 
-    /// The k-th arc, at once where the hint is the one that the read of the arc before answered; and a hint.
+    /// The k-th arc, at once where the hint is the one that the read of the arc before answered;
+    /// and a hint.
     fn at_near(&self, k: usize, hint: u32) -> ((u32, i64), u32)
         requires { k < finite.len (arcs self.now) }
         ensures { slice_get (finite.entries (arcs self.now)) k ≡ Some result.0 };
@@ -47,7 +50,8 @@ pub trait Page: Drop {
     fn edited(&self, alloc: Global, edits: &[(u32, Option<i64>)]) -> Result<Vec<Self>, AllocError>
         requires edits { IsPatch edits.now }
         requires held { 0 < finite.len (arcs self.now) }
-        ensures arcs { IfOk result (λ v. joined (map arcs v.items) ≡ merged (finite.entries (arcs self.now)) edits.now) }
+        ensures arcs { IfOk result (λ v. joined (map arcs v.items)
+            ≡ merged (finite.entries (arcs self.now)) edits.now) }
         ensures some { IfOk result (λ v. All (λ p. 0 < finite.len (arcs p)) v.items) };
 }
 
@@ -155,7 +159,8 @@ impl<P: Page> Pages<P> {
         }
     }
 
-    /// The k-th arc, at once where the hint is the one that the read of the arc before answered; and a hint.
+    /// The k-th arc, at once where the hint is the one that the read of the arc before answered;
+    /// and a hint.
     pub fn at_near(&self, k: usize, hint: u32) -> ((u32, i64), u32)
         requires { k < finite.len self.now }
         ensures { slice_get (finite.entries self.now) k ≡ Some result.0 }
@@ -178,7 +183,8 @@ impl<P: Page> Pages<P> {
         Ok(made)
     }
 
-    /// The same arcs, in lists of at most so many pages. A list that is too long is split into halves, or into several.
+    /// The same arcs, in lists of at most so many pages. A list that is too long is split into
+    /// halves, or into several.
     pub fn split(self, alloc: Global) -> Result<Vec<Pages<P>>, AllocError>
         ensures arcs { IfOk result (λ v. joined v.items ≡ finite.entries self) }
         ensures some { IfOk result (λ v. All (λ p. 0 < finite.len p) v.items) }
@@ -215,8 +221,10 @@ impl<P: Page> Pages<P> {
         requires some { 0 < count }
         requires count { count ≡ finite.len (P.arcs (arc_value part)) }
         requires first { first ≡ end_at (finite.entries (P.arcs (arc_value part))) 0 }
-        requires rising { IsRow (finite.entries self.old ++ finite.entries (P.arcs (arc_value part))) }
-        ensures ok { OnOk result (finite.entries self.new ≡ finite.entries self.old ++ finite.entries (P.arcs (arc_value part))) }
+        requires rising { IsRow (finite.entries self.old
+            ++ finite.entries (P.arcs (arc_value part))) }
+        ensures ok { OnOk result (finite.entries self.new ≡ finite.entries self.old
+            ++ finite.entries (P.arcs (arc_value part))) }
         ensures err { OnErr result (self.new ≡ self.old) }
     {
         let before = self.count;
@@ -238,7 +246,8 @@ impl<P: Page> Pages<P> {
     fn push_page(&mut self, alloc: Global, page: P) -> Result<(), AllocError>
         requires some { 0 < finite.len (P.arcs page) }
         requires rising { IsRow (finite.entries self.old ++ finite.entries (P.arcs page)) }
-        ensures { OnOk result (finite.entries self.new ≡ finite.entries self.old ++ finite.entries (P.arcs page)) }
+        ensures { OnOk result (finite.entries self.new ≡ finite.entries self.old
+            ++ finite.entries (P.arcs page)) }
     {
         let count = page.len();
         let (first, _) = page.at(0);
@@ -250,7 +259,8 @@ impl<P: Page> Pages<P> {
     fn push_pages(&mut self, alloc: Global, pages: Vec<P>) -> Result<(), AllocError>
         requires some { All (λ p. 0 < finite.len (P.arcs p)) pages.items }
         requires rising { IsRow (finite.entries self.old ++ joined (map P.arcs pages.items)) }
-        ensures { OnOk result (finite.entries self.new ≡ finite.entries self.old ++ joined (map P.arcs pages.items)) }
+        ensures { OnOk result (finite.entries self.new ≡ finite.entries self.old
+            ++ joined (map P.arcs pages.items)) }
     {
         for page in pages {
             self.push_page(alloc, page)?;
@@ -262,8 +272,10 @@ impl<P: Page> Pages<P> {
     fn share(&mut self, index: &[Entry<P>], count: usize, i: usize) -> Result<(), AllocError>
         requires index { IsIndex (marks P.arcs index.now) count }
         requires inside { i < length index.now }
-        requires rising { IsRow (finite.entries self.old ++ finite.entries (mark_at (marks P.arcs index.now) i).arcs) }
-        ensures { OnOk result (finite.entries self.new ≡ finite.entries self.old ++ finite.entries (mark_at (marks P.arcs index.now) i).arcs) }
+        requires rising { IsRow (finite.entries self.old
+            ++ finite.entries (mark_at (marks P.arcs index.now) i).arcs) }
+        ensures { OnOk result (finite.entries self.new ≡ finite.entries self.old
+            ++ finite.entries (mark_at (marks P.arcs index.now) i).arcs) }
     {
         let first = first_at(index, i);
         let size = size_at(index, count, i);
@@ -283,8 +295,10 @@ impl<P: Page> Pages<P> {
         requires index { IsIndex (marks P.arcs index.now) count }
         requires inside { i < length index.now }
         requires edits { IsPatch edits.now }
-        requires rising { IsRow (finite.entries self.old ++ merged (finite.entries (mark_at (marks P.arcs index.now) i).arcs) edits.now) }
-        ensures { OnOk result (finite.entries self.new ≡ finite.entries self.old ++ merged (finite.entries (mark_at (marks P.arcs index.now) i).arcs) edits.now) }
+        requires rising { IsRow (finite.entries self.old
+            ++ merged (finite.entries (mark_at (marks P.arcs index.now) i).arcs) edits.now) }
+        ensures { OnOk result (finite.entries self.new ≡ finite.entries self.old
+            ++ merged (finite.entries (mark_at (marks P.arcs index.now) i).arcs) edits.now) }
     {
         if edits.is_empty() {
             self.share(index, count, i)
@@ -318,7 +332,8 @@ impl<P: Page> Pages<P> {
 // Appends pages that have arcs.
 fn push_some<P: Page>(done: &mut Vec<Pages<P>>, pages: Pages<P>) -> Result<(), AllocError>
     requires { All (λ p. 0 < finite.len p) done.old.items }
-    ensures arcs { OnOk result (joined done.new.items ≡ joined done.old.items ++ finite.entries pages) }
+    ensures arcs { OnOk result (joined done.new.items ≡ joined done.old.items
+        ++ finite.entries pages) }
     ensures some { OnOk result (All (λ p. 0 < finite.len p) done.new.items) }
 {
     if pages.len() > 0 {
@@ -337,7 +352,8 @@ fn close_full<P: Page>(
     size: usize,
 ) -> Result<(), AllocError>
     requires { All (λ p. 0 < finite.len p) done.old.items }
-    ensures arcs { OnOk result (joined done.new.items ++ finite.entries last.new ≡ joined done.old.items ++ finite.entries last.old) }
+    ensures arcs { OnOk result (joined done.new.items ++ finite.entries last.new
+        ≡ joined done.old.items ++ finite.entries last.old) }
     ensures some { OnOk result (All (λ p. 0 < finite.len p) done.new.items) }
 {
     if last.index.len() >= size {
@@ -373,7 +389,8 @@ fn cut_after<P: Page>(
     requires inside { i < length index.now }
     requires edits { IsPatch edits.now }
     requires within { from ≤ length edits.now }
-    requires passed { suc i < length index.now → All (λ e. e.0 < (mark_at (marks P.arcs index.now) (suc i)).first) (take from edits.now) }
+    requires passed { suc i < length index.now
+        → All (λ e. e.0 < (mark_at (marks P.arcs index.now) (suc i)).first) (take from edits.now) }
     ensures { IsNextCut (marks P.arcs index.now) i edits.now from result }
 {
     if i + 1 < index.len() {

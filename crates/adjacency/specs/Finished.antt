@@ -9,7 +9,8 @@ use Rattle.adjacency.specs.declared.plan.Plan.{Plan}
 use Rattle.adjacency.specs.declared.ready.Ready.{Ready}
 
 -- what is ready is what the plan changed, over the attributes and rows that it began with
-pub record IsFinished {R : Type 0} (attrs : List ℤ) (out into : List RowMap) (p : Plan R) (r : Ready) : Type 0 where
+pub record IsFinished {R : Type 0} (attrs : List ℤ) (out into : List RowMap) (p : Plan R)
+    (r : Ready) : Type 0 where
   pub places : HasPlaces attrs out into r
   pub is_attrs : ready_attrs attrs r ≡ p.attrs.now
   pub is_out : ready_out out r ≡ p.out.rows

@@ -22,7 +22,8 @@ ready_attrs attrs r = put_all r.attrs.items (full_attrs attrs r.extra)
 
 -- the rows and so many new ones, with each change made
 abbrev pub changed_rows : List RowMap → ℕ → BTreeMap ℕ RowChange → List RowMap
-changed_rows rows extra changes = drafted_by (full_of rows extra) (full_of rows extra) changes.entries
+changed_rows rows extra changes = drafted_by (full_of rows extra) (full_of rows extra)
+    changes.entries
 
 abbrev pub ready_out : List RowMap → Ready → List RowMap
 ready_out out r = changed_rows out r.extra r.out
@@ -37,7 +38,8 @@ pub record HasPlaces (attrs : List ℤ) (out into : List RowMap) (r : Ready) : T
   pub of_into : IsDraft (full_of into r.extra) r.into
 
 -- no edit is bad, and the attributes and rows are those of the graph after the edits
-pub record IsReady (l : Limits) (attrs : List ℤ) (out into : List RowMap) (edits : List Edit) (r : Ready) : Type 0 where
+pub record IsReady (l : Limits) (attrs : List ℤ) (out into : List RowMap) (edits : List Edit)
+    (r : Ready) : Type 0 where
   pub fine : bad l (plain_of attrs out) edits ≡ None
   pub places : HasPlaces attrs out into r
   pub is : plain_of (ready_attrs attrs r) (ready_out out r) ≡ after (plain_of attrs out) edits

@@ -9,6 +9,7 @@ ghost use Rattle.adjacency.specs.Planned.{IsOver};
 ghost use Rattle.adjacency.specs.Refusal.{IsRefusal};
 ghost use Rattle.adjacency.specs.ReadyFor.{IsReady};
 ghost use Rattle.adjacency.specs.Finished.{IsFinished};
+ghost use Rattle.adjacency.specs.declared.change.TheConstants.{MOST_EDITS};
 
 use crate::arcs::Arcs;
 use crate::attr_draft::AttrDraft;
@@ -23,8 +24,9 @@ use bolt_base::{Edit, Limits};
 use std::alloc::{AllocError, Global};
 use std::collections::BTreeMap;
 
-/// What a batch of edits makes of a graph, however its rows are stored: new attributes with their places, how many
-/// vertices are new, what becomes of the rows out and in, the number of edges, and the net change.
+/// What a batch of edits makes of a graph, however its rows are stored: new attributes with their
+/// places, how many vertices are new, what becomes of the rows out and in, the number of edges, and
+/// the net change.
 #[derive(Drop)]
 pub struct Ready {
     pub attrs: Vec<(u32, i64)>,
@@ -48,7 +50,7 @@ pub fn plan_edits<R: Arcs + Drop>(
     requires mirrored { AreMirrored (length attrs.now) out.now into.now }
     requires count { edges ≡ finite.len (weights_of out.now) }
     requires good { IsGood limits (plain_of attrs.now out.now) }
-    requires few { length edits.now ≤ 1000000 }
+    requires few { length edits.now ≤ MOST_EDITS }
     ensures ok { IfOk result (IsReady limits attrs.now out.now into.now edits.now) }
     ensures err { IfErr result (IsRefusal limits (plain_of attrs.now out.now) edits.now) }
 {
@@ -81,7 +83,8 @@ pub fn plan_edits<R: Arcs + Drop>(
 fn finish<R: Arcs + Drop>(alloc: Global, plan: Plan<'_, R>) -> Result<Ready, AllocError>
     requires narrow { (u : ℕ) → finite.len (row_at plan.out.full u) < 2 ^ 32 }
     requires even { length plan.attrs.now ≡ length plan.out.rows }
-    ensures { (attrs : List ℤ) (out into : List RowMap) → IsOver attrs out into plan.entry → IfOk result (IsFinished attrs out into plan.entry) }
+    ensures { (attrs : List ℤ) (out into : List RowMap) → IsOver attrs out into plan.entry
+        → IfOk result (IsFinished attrs out into plan.entry) }
 {
     let Plan {
         attrs,

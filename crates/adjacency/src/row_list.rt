@@ -1,5 +1,6 @@
 // The rows of a graph in one direction, and rows that are put in their places.
-ghost use Rattle.std.specs.Prelude.{◌≡◌, ◌<◌, ◌++◌, ◌∷◌, [], Some, length, map, take, slice_get, IfOk, OnOk, OnErr};
+ghost use Rattle.std.specs.Prelude.{◌≡◌, ◌<◌, ◌++◌, ◌∷◌, [], Some, length, map, take, slice_get};
+ghost use Rattle.std.specs.Prelude.{IfOk, OnOk, OnErr};
 ghost use Rattle.std.specs.FinMap as finite;
 ghost use Rattle.swaps.specs.Swaps.{put_all, undo, AreInside};
 ghost use Rattle.adjacency.specs.Rows.{row_at, full_of};
@@ -130,7 +131,8 @@ impl<R: Arcs + Drop> RowList<R> {
         row.arc(k as usize)
     }
 
-    /// The k-th arc of a row, at once where the hint is the one that the read of the arc before left.
+    /// The k-th arc of a row, at once where the hint is the one that the read of the arc before
+    /// left.
     #[inline]
     pub fn arc_near(&self, at: u32, k: u32, near: &mut Near) -> (u32, i64)
         requires { k < finite.len (row_at self.now at) }
@@ -170,7 +172,8 @@ impl<R: Arcs + Drop> RowList<R> {
         self.rows.truncate(count);
     }
 
-    /// Puts each row in its place, in order, and leaves in its stead what stood there. Takes no memory.
+    /// Puts each row in its place, in order, and leaves in its stead what stood there. Takes no
+    /// memory.
     pub fn swap_in(&mut self, placed: &mut PlacedRows<R>)
         requires { AreInside (length self.old) placed.old }
         ensures put { self.new ≡ put_all placed.old self.old }
@@ -181,7 +184,8 @@ impl<R: Arcs + Drop> RowList<R> {
         swaps::swap_in(&mut self.rows, &mut placed.items);
     }
 
-    /// Puts back what stood there, the last first, and drops what stands there now. Takes no memory.
+    /// Puts back what stood there, the last first, and drops what stands there now. Takes no
+    /// memory.
     pub fn put_back(&mut self, placed: &mut PlacedRows<R>)
         requires { AreInside (length self.old) placed.old }
         ensures back { self.new ≡ undo placed.old self.old }
@@ -198,7 +202,8 @@ fn grow_rows<R: Arcs + Drop>(
     rows: &mut Vec<R>,
     count: usize,
 ) -> Result<(), AllocError>
-    ensures ok { OnOk result (map R.arcs rows.new.items ≡ full_of (map R.arcs rows.old.items) count) }
+    ensures ok { OnOk result (map R.arcs rows.new.items
+        ≡ full_of (map R.arcs rows.old.items) count) }
     ensures err { OnErr result (rows.new.items ≡ rows.old.items) }
 {
     let old = rows.len();

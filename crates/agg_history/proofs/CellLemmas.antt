@@ -1,9 +1,12 @@
 -- Entries as flat numbers, and what a call makes of them.
-use Rattle.std.proofs.Common.{◌≡◌, ℕ, ℤ, pos, ◌+◌, ◌*◌, ◌<◌, ◌≤◌, List, [], ◌∷◌, ◌++◌, length, get_or, set, take, drop, sym, ap, ◌∙◌, arith, length-append}
+use Rattle.std.proofs.Common.{◌≡◌, ℕ, ℤ, pos, ◌+◌, ◌*◌, ◌<◌, ◌≤◌, List, [], ◌∷◌, ◌++◌, length}
+use Rattle.std.proofs.Common.{get_or, set, take, drop, sym, ap, ◌∙◌, arith, length-append}
 use Rattle.bolt_base.specs.Keep.{Entry}
 use Rattle.agg_history.specs.Entries.{Entries, entry_in, chunks, words_of, AreCells}
 use Rattle.agg_history.specs.declared.cells.Cells.TheInside.{Inside}
-use Rattle.agg_history.proofs.Chunks.{length-chunks, agg_at, val_at, agg_place, val_place, entry_end, entry_width, entry_words, chunks_more, put_words, front_chunks, front_end, twice}
+use Rattle.agg_history.proofs.Chunks.{length-chunks, agg_at, val_at, agg_place, val_place}
+use Rattle.agg_history.proofs.Chunks.{entry_end, entry_width, entry_words, chunks_more, put_words}
+use Rattle.agg_history.proofs.Chunks.{front_chunks, front_end, two_halves}
 
 abbrev pub view_of : Inside → Entries
 view_of r = record { lanes = r.lanes; all = chunks r.lanes r.len r.words.items }
@@ -60,7 +63,7 @@ module _ (r : Inside) (t : Entries) (is : view_of r ≡ t)
     words_is =
         ap (λ m. take m (drop (j * (2 * r.lanes)) r.words.items))
         (let e : 2 * r.lanes ≡ r.lanes + r.lanes = omega arith in e)
-        ∙ ap (λ m. take (r.lanes + r.lanes) (drop m r.words.items)) (twice j r.lanes)
+        ∙ ap (λ m. take (r.lanes + r.lanes) (drop m r.words.items)) (two_halves j r.lanes)
         ∙ entry_words r.lanes r.len r.words.items j inside
         ∙ ap (λ es. words_of (entry_in es j)) all_is
 
@@ -93,7 +96,7 @@ module _ (r : Inside) (t : Entries) (is : view_of r ≡ t)
           ≡ r.lanes + r.lanes = omega (arith, length-append e.0 e.1, lanes_is) in f)
           ∙ ap (λ m. chunks r.lanes r.len
           (take m r.words.items
-          ++ (words_of e ++ drop (m + (r.lanes + r.lanes)) r.words.items))) (twice j r.lanes)
+          ++ (words_of e ++ drop (m + (r.lanes + r.lanes)) r.words.items))) (two_halves j r.lanes)
           ∙ put_words r.lanes r.len r.words.items j e inside ok.long (agg ∙ sym lanes_is)
           (val ∙ sym lanes_is)
           ∙ ap (λ es. set es j e) all_is
@@ -111,7 +114,7 @@ module _ (r : Inside) (t : Entries) (is : view_of r ≡ t)
         (omega (arith, count_is))).0
 
     pub front_place : m * (2 * r.lanes) ≡ m * (r.lanes + r.lanes)
-    front_place = twice m r.lanes
+    front_place = two_halves m r.lanes
 
     pub front_is : chunks r.lanes m (take (m * (2 * r.lanes)) r.words.items) ≡ take m t.all
     front_is = ap (λ k. chunks r.lanes m (take k r.words.items)) front_place

@@ -1,5 +1,7 @@
 -- What a draft makes of a history.
-use Rattle.std.proofs.Common.{◌≡◌, ℕ, ◌+◌, ◌-◌, ◌<◌, ◌≤◌, false, eqb, List, [], ◌++◌, length, get_or, map, replicate, Option, None, Some, IsSome, inl, inr, refl, sym, ap, ◌∙◌, subst, arith}
+use Rattle.std.proofs.Common.{◌≡◌, ℕ, ◌+◌, ◌-◌, ◌<◌, ◌≤◌, false, eqb, List, [], ◌++◌, length}
+use Rattle.std.proofs.Common.{get_or, map, replicate, Option, None, Some, IsSome, inl, inr, refl}
+use Rattle.std.proofs.Common.{sym, ap, ◌∙◌, subst, arith}
 use Rattle.std.specs.List.{All, IsDistinct, list_any, sum_by, range_with_len}
 use Rattle.std.specs.Option.{unwrap_or}
 use Rattle.std.proofs.lemmas.Bool.{cases_lt, false≢true}
@@ -12,7 +14,8 @@ use Rattle.bolt_base.proofs.RowColumns.{column_at, length-column, made_full, mad
 use Rattle.agg_history.specs.Entries.{entry_in}
 use Rattle.agg_history.specs.Puts.{PutTable, put_at, laid_at}
 use Rattle.bolt_base.specs.RowShape.{AreFull}
-use Rattle.agg_history.specs.Pruned.{Pruned, HistoryState, read_at, track_of, rows_from, rows_of, vertices_of, first_row, pruned}
+use Rattle.agg_history.specs.Pruned.{Pruned, HistoryState, read_at, track_of, rows_from, rows_of}
+use Rattle.agg_history.specs.Pruned.{vertices_of, first_row, pruned}
 use Rattle.agg_history.specs.Belongs.{BelongsTo, NewArePut, HaveNoPut, laid_rows}
 use Rattle.agg_history.proofs.PrunedLemmas.{pruned_track, stands_for_rows}
 use Rattle.agg_history.proofs.PutLemmas.{laid_reads}

@@ -1,8 +1,11 @@
 -- A history with room for new vertices, and with a draft.
-use Rattle.std.proofs.Common.{◌≡◌, ℕ, ◌<◌, List, [], ◌∷◌, ◌++◌, length, get_or, map, take, replicate, None, refl, sym, ap, ◌∙◌, subst, arith, length-take, length-append, IfSome}
+use Rattle.std.proofs.Common.{◌≡◌, ℕ, ◌<◌, List, [], ◌∷◌, ◌++◌, length, get_or, map, take}
+use Rattle.std.proofs.Common.{replicate, None, refl, sym, ap, ◌∙◌, subst, arith, length-take}
+use Rattle.std.proofs.Common.{length-append, IfSome}
 use Rattle.std.specs.List.{All, sum_by, range_with_len, zip}
 use Rattle.std.proofs.lemmas.List.{take_at, get_or_default, get_or-map, map-id, length-map}
-use Rattle.std.proofs.lemmas.List.Elements.{All-append, All-take, All-replicate, All-same, All-get_or, All-map, All-weaker, All-from_get_or}
+use Rattle.std.proofs.lemmas.List.Elements.{All-append, All-take, All-replicate, All-same}
+use Rattle.std.proofs.lemmas.List.Elements.{All-get_or, All-map, All-weaker, All-from_get_or}
 use Rattle.swaps.specs.Swaps.{put_all, placed, places}
 use Rattle.bolt_base.specs.Keep.{Entry, no_entry}
 use Rattle.bolt_base.specs.RowTable.{entry_at}
@@ -16,7 +19,8 @@ use Rattle.agg_history.specs.declared.history.Draft.{Draft}
 use Rattle.agg_history.specs.declared.history.History.TheInside.{Inside}
 use Rattle.agg_history.proofs.Grown.{IsGrown}
 use Rattle.agg_history.proofs.MakeLemmas.{track_cells, map_map, made_is}
-use Rattle.agg_history.proofs.DraftLemmas.{laid_wide, laid_stands, untouched_old, untouched_track, untouched_first, drafted_list}
+use Rattle.agg_history.proofs.DraftLemmas.{laid_wide, laid_stands, untouched_old, untouched_track}
+use Rattle.agg_history.proofs.DraftLemmas.{untouched_first, drafted_list}
 
 module _ (h g : Inside) (ok : IsHistory h) (grown : IsGrown h g) where
   abbrev blank : Entries

@@ -1,14 +1,17 @@
 -- What a history reads, and how much it keeps.
-use Rattle.std.proofs.Common.{◌≡◌, ℕ, suc, ◌+◌, ◌*◌, ◌<◌, ◌≤◌, List, [], ◌∷◌, length, get_or, map, take, min, refl, sym, ap, ◌∙◌, arith, length-take}
+use Rattle.std.proofs.Common.{◌≡◌, ℕ, suc, ◌+◌, ◌*◌, ◌<◌, ◌≤◌, List, [], ◌∷◌, length, get_or}
+use Rattle.std.proofs.Common.{take, min, sym, ap, ◌∙◌, arith, length-take}
 use Rattle.std.specs.List.{sum_by}
 use Rattle.std.proofs.lemmas.List.{get_or-take, get_or-map, length-map}
 use Rattle.std.proofs.lemmas.List.Elements.{All-get_or, All-from_get_or}
 use Rattle.std.proofs.lemmas.List.Sums.{sum_by-le}
 use Rattle.bolt_base.specs.Keep.{Entry, no_entry, column, keep, kept, read}
 use Rattle.bolt_base.specs.RowTable.{entry_at}
-use Rattle.bolt_base.proofs.RowColumns.{length-column, made_at, made_length, keep_below, length-stored, sum_kept}
+use Rattle.bolt_base.proofs.RowColumns.{length-column, made_at, made_length, keep_below}
+use Rattle.bolt_base.proofs.RowColumns.{length-stored, sum_kept}
 use Rattle.agg_history.specs.Entries.{Entries, entry_in}
-use Rattle.agg_history.specs.Pruned.{Pruned, HistoryState, track_of, read_at, first_row, pruned, rows_of, vertices_of}
+use Rattle.agg_history.specs.Pruned.{Pruned, HistoryState, track_of, read_at, first_row, pruned}
+use Rattle.agg_history.specs.Pruned.{rows_of, vertices_of}
 use Rattle.agg_history.specs.HistoryOf.{history_of, now_of, IsHistory}
 use Rattle.agg_history.specs.declared.history.History.TheInside.{Inside}
 use Rattle.agg_history.proofs.PrunedLemmas.{pruned_track}
@@ -47,8 +50,8 @@ module _ (h : Inside) (t : HistoryState) (is : history_of h ≡ t) (ok : IsHisto
       ∙ ap (kept t.vertical (rows_of t)) first_count
 
   module _ (v : ℕ) (l : v < vertices_of t) where
-    vertex : v < h.vertices
-    vertex = omega (arith, vertices_is)
+    vertex_below : v < h.vertices
+    vertex_below = omega (arith, vertices_is)
 
     pub first_below : v < length h.first.all
     first_below = let f = ok.firsts in omega (arith, vertices_is)
@@ -57,14 +60,14 @@ module _ (h : Inside) (t : HistoryState) (is : history_of h ≡ t) (ok : IsHisto
     track_below = let f = ok.tracks in omega (arith, vertices_is)
 
     pub first_is : entry_in h.first.all v ≡ entry_in t.now.first v
-    first_is = sym (get_or-take h.vertices h.first.all v no_entry vertex)
+    first_is = sym (get_or-take h.vertices h.first.all v no_entry vertex_below)
         ∙ ap (λ (p : Pruned). entry_in p.first v) now_is
 
     pub track_is : (d : Entries) → (get_or h.tracks.items v d).all ≡ track_of t.now.tracks v
     track_is d =
         let below = track_below in
-        let more = vertex in
-        ap (λ (c : Entries). c.all) (sym (get_or-take h.vertices h.tracks.items v d vertex))
+        let more = vertex_below in
+        ap (λ (c : Entries). c.all) (sym (get_or-take h.vertices h.tracks.items v d vertex_below))
         ∙ sym (get_or-map (λ (c : Entries). c.all) (take h.vertices h.tracks.items) v d []
         (omega (arith, length-take h.vertices h.tracks.items)))
         ∙ ap (λ (p : Pruned). track_of p.tracks v) now_is

@@ -1,12 +1,13 @@
 -- A history made of rows.
-use Rattle.std.proofs.Common.{◌≡◌, ℕ, ◌+◌, ◌<◌, ◌≤◌, Bool, List, [], ◌∷◌, ◌++◌, length, get_or, map, take, refl, sym, ap, ◌∙◌, arith}
-use Rattle.std.specs.List.{All, range_with_len}
+use Rattle.std.proofs.Common.{◌≡◌, ℕ, ◌+◌, ◌<◌, ◌≤◌, Bool, List, [], ◌∷◌, ◌++◌, length, map}
+use Rattle.std.proofs.Common.{take, refl, sym, ap, ◌∙◌, arith}
+use Rattle.std.specs.List.{range_with_len}
 use Rattle.std.proofs.lemmas.List.{take_more, take_all}
 use Rattle.std.proofs.lemmas.List.FromFn.{length-map-range_with_len, fill_by_all}
 use Rattle.std.proofs.lemmas.List.Elements.{All-get_or}
 use Rattle.bolt_base.specs.Keep.{Entry, Row, no_entry, column, stored}
 use Rattle.bolt_base.specs.RowTable.{RowTable, entry_at}
-use Rattle.bolt_base.specs.RowShape.{AreFull, AreWide, IsWide}
+use Rattle.bolt_base.specs.RowShape.{AreFull}
 use Rattle.bolt_base.proofs.RowColumns.{column_at, length-column, keep_below, length-stored}
 use Rattle.agg_history.specs.Entries.{Entries}
 use Rattle.agg_history.specs.Pruned.{first_row, pruned}

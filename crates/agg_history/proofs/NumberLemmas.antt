@@ -1,7 +1,10 @@
 -- Vertices that are numbered in the order in which they came.
-use Rattle.std.proofs.Common.{◌≡◌, ◌≢◌, ℕ, zero, suc, ◌+◌, ◌<◌, ◌≤◌, Bool, true, false, ◌||◌, eqb, List, [], ◌∷◌, ◌++◌, length, get_or, inl, inr, refl, sym, ap, ◌∙◌, arith}
+use Rattle.std.proofs.Common.{◌≡◌, ◌≢◌, ℕ, zero, suc, ◌+◌, ◌<◌, ◌≤◌, Bool, true, false, ◌||◌, eqb}
+use Rattle.std.proofs.Common.{List, [], ◌∷◌, ◌++◌, length, get_or, inl, inr, refl, sym, ap, ◌∙◌}
+use Rattle.std.proofs.Common.{arith}
 use Rattle.std.specs.List.{All, IsDistinct, list_any}
-use Rattle.std.proofs.lemmas.Bool.{cases_eq, cases_lt, or_cases, ne_eqb, eq-eqb, eqb-true, false≢true}
+use Rattle.std.proofs.lemmas.Bool.{cases_eq, cases_lt, or_cases, ne_eqb, eq-eqb, eqb-true}
+use Rattle.std.proofs.lemmas.Bool.{false≢true}
 use Rattle.std.proofs.lemmas.List.{get_or_append_left, get_or_push, get_or_default, length_push}
 use Rattle.std.proofs.lemmas.List.Elements.{All-from_get_or}
 use Rattle.std.proofs.lemmas.Map.Keys.{IsDistinct-from_apart}
@@ -33,31 +36,33 @@ module _ (number : ℕ → ℕ) (n : ℕ) (order : List ℕ) (h : AreNumbered nu
   pub all_inside : All (λ v. v < n) order
   all_inside = All-from_get_or (λ (v : ℕ). v < n) order 0 h.inside
 
-  apart : (i j d : ℕ) → i < j → j < length order → eqb (get_or order i d) (get_or order j d) ≡ false
-  apart i j d l m = ne_eqb (get_or order i d) (get_or order j d) (λ e.
+  numbers_apart : (i j d : ℕ) → i < j → j < length order
+      → eqb (get_or order i d) (get_or order j d) ≡ false
+  numbers_apart i j d l m = ne_eqb (get_or order i d) (get_or order j d) (λ e.
       let a : get_or order i 0 ≡ get_or order j 0 = get_or_default order i 0 d (omega arith) ∙ e
       ∙ get_or_default order j d 0 m in
       let b : suc i ≡ suc j = sym (h.back i (omega arith)) ∙ ap number a ∙ h.back j m in
       absurd (omega arith))
 
-  pub distinct : IsDistinct eqb order
-  distinct = IsDistinct-from_apart eqb order apart
+  pub order_distinct : IsDistinct eqb order
+  order_distinct = IsDistinct-from_apart eqb order numbers_apart
 
-  pub few : length order ≤ n
-  few = length-le_from_distinct_below order n distinct (λ q t. let at = any_place order q t in
+  pub order_few : length order ≤ n
+  order_few = length-le_from_distinct_below order n order_distinct
+      (λ q t. let at = any_place order q t in
       let l = h.inside at.0 at.1 in let e = at.2 in omega arith)
 
-  pub unnumbered : (v : ℕ) → v < n → list_any (λ u. eqb v u) order ≡ false → number v ≡ 0
-  unnumbered v l none = by_number (number v) refl
+  pub not_in_order : (v : ℕ) → v < n → list_any (λ u. eqb v u) order ≡ false → number v ≡ 0
+  not_in_order v l none = by_number (number v) refl
     where
       by_number : (k : ℕ) → number v ≡ k → number v ≡ 0
       by_number zero e = e
       by_number (suc p) e = absurd
           (false≢true (sym none ∙ any_at order v p (h.within v p l e) (h.forth v p l e)))
 
-  pub numbered : (v : ℕ) → v < n → list_any (λ u. eqb v u) order ≡ true → (p : ℕ)
+  pub in_order_numbered : (v : ℕ) → v < n → list_any (λ u. eqb v u) order ≡ true → (p : ℕ)
       × (number v ≡ suc p) × (p < length order)
-  numbered v l some = let at = any_place order v some in
+  in_order_numbered v l some = let at = any_place order v some in
       (at.0, ap number (sym at.2) ∙ h.back at.0 at.1, at.1)
 
 -- one more
@@ -94,10 +99,10 @@ module _ (number : ℕ → ℕ) (n : ℕ) (order : List ℕ) (h : AreNumbered nu
     ];
   }
 
-  pub room : length order + 1 ≤ n
-  room =
+  pub room_for_one : length order + 1 ≤ n
+  room_for_one =
       let later : ℕ → ℕ = λ u. number_or (eqb u v) u in
-      let more = few later n (order ++ v ∷ [])
+      let more = order_few later n (order ++ v ∷ [])
       (numbered_more later (ap (λ b. number_or b v) (eq-eqb v v refl))
       (λ u other. ap (λ b. number_or b u) (ne_eqb u v other))) in
       omega (arith, length_push order v)

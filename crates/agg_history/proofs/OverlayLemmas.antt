@@ -1,8 +1,11 @@
 -- What a put makes of an overlay.
-use Rattle.std.proofs.Common.{◌≡◌, ◌≢◌, ℕ, zero, suc, ◌<◌, List, [], ◌∷◌, ◌++◌, length, get_or, set, map, replicate, inl, inr, refl, sym, ap, ◌∙◌, subst, arith}
+use Rattle.std.proofs.Common.{◌≡◌, ◌≢◌, ℕ, zero, suc, ◌<◌, List, [], ◌∷◌, ◌++◌, length, get_or, set}
+use Rattle.std.proofs.Common.{map, replicate, inl, inr, refl, sym, ap, ◌∙◌, subst, arith}
 use Rattle.std.proofs.lemmas.Bool.{cases_eq}
-use Rattle.std.proofs.lemmas.List.{get_or-set_same, get_or-set_other, get_or-map, set-get_or, map-set, map_push, length-map, length-set}
+use Rattle.std.proofs.lemmas.List.{get_or-set_same, get_or-set_other, get_or-map, set-get_or}
+use Rattle.std.proofs.lemmas.List.{map-set, map_push, length-map, length-set}
 use Rattle.bolt_base.specs.Keep.{Entry}
+use Rattle.bolt_base.proofs.ListLemmas.{get_or-replicate_same}
 use Rattle.agg_history.specs.Puts.{Round, round_at, with_put}
 use Rattle.agg_history.specs.PutList.{ListedPuts}
 use Rattle.agg_history.specs.Numbered.{AreNumbered}
@@ -105,14 +108,9 @@ module _ (table : List (List ℕ)) (v i x : ℕ) (inside : v < length table) whe
             (vertices_in (round_at (with_put puts i v e) k))) (sym same) now
 
 -- ---- nothing is put yet
-pub zeros : (w i : ℕ) → get_or {A = ℕ} (replicate w 0) i 0 ≡ 0
-zeros zero i = refl
-zeros (suc w) zero = refl
-zeros (suc w) (suc i) = zeros w i
-
 no_place : (n w v i : ℕ) → place_at (replicate n (replicate w 0)) v i ≡ 0
 no_place zero w v i = refl
-no_place (suc n) w zero i = zeros w i
+no_place (suc n) w zero i = get_or-replicate_same w i 0
 no_place (suc n) w (suc v) i = no_place n w v i
 
 no_round : (m i : ℕ) → round_at (replicate m []) i ≡ []

@@ -1,11 +1,16 @@
 -- Lines of places as flat numbers.
-use Rattle.std.proofs.Common.{◌≡◌, ◌≢◌, ℕ, zero, suc, ◌+◌, ◌-◌, ◌*◌, ◌<◌, ◌≤◌, List, [], ◌∷◌, ◌++◌, length, get_or, set, take, drop, replicate, map, inl, inr, refl, sym, ap, ◌∙◌, arith, suc-mul, mul-le-mul_right, length-append}
+use Rattle.std.proofs.Common.{◌≡◌, ◌≢◌, ℕ, zero, suc, ◌+◌, ◌-◌, ◌*◌, ◌<◌, ◌≤◌, List, [], ◌∷◌, ◌++◌}
+use Rattle.std.proofs.Common.{length, get_or, set, take, drop, replicate, map, inl, inr, refl, sym}
+use Rattle.std.proofs.Common.{ap, ◌∙◌, arith, suc-mul, mul-le-mul_right, length-append}
 use Rattle.std.proofs.Math.Seq.{take-set-lt}
 use Rattle.std.proofs.lemmas.Bool.{cases_eq, cases_lt}
-use Rattle.std.proofs.lemmas.List.{ext_get_or, get_or-map, length-map, length-set, length-replicate, get_or-set_same, get_or-set_other, get_or-take, get_or-drop, take_all, take-append-le, drop-append-le, drop_at, take-set-le, drop-set-lt, drop-set-add, length-drop}
+use Rattle.std.proofs.lemmas.List.{ext_get_or, get_or-map, length-map, length-set, length-replicate}
+use Rattle.std.proofs.lemmas.List.{get_or-set_same, get_or-set_other, get_or-take, get_or-drop}
+use Rattle.std.proofs.lemmas.List.{take_all, take-append-le, drop-append-le, drop_at, take-set-le}
+use Rattle.std.proofs.lemmas.List.{drop-set-lt, drop-set-add, length-drop}
 use Rattle.agg_history.specs.Numbered.{AreNumbered}
 use Rattle.agg_history.specs.Places.{line_of, place_at}
-use Rattle.agg_history.proofs.NumberLemmas.{numbered_more, room}
+use Rattle.agg_history.proofs.NumberLemmas.{numbered_more, room_for_one}
 
 -- a line ends where the next one begins
 pub line_end : (w n t : ℕ) → t < n → t * w + w ≤ n * w
@@ -125,7 +130,7 @@ module _ (w : ℕ) (slots touched places : List ℕ) (long : length places ≡ l
         (λ u other. get_or-set_other slots v u (suc (length touched)) 0 other))
 
     pub touched_room : length touched + 1 ≤ length slots
-    touched_room = room (λ u. get_or slots u 0) (length slots) touched h v l new
+    touched_room = room_for_one (λ u. get_or slots u 0) (length slots) touched h v l new
 
     pub same_table : map (line_of w (places ++ replicate w 0)) (set slots v (suc (length touched)))
         ≡ map (line_of w places) slots

@@ -1,11 +1,9 @@
 -- What is kept of rows stands for them.
 use Rattle.std.proofs.Common.{◌≡◌, ℕ, ◌+◌, ◌<◌, Bool, List, [], length, sym, ap, ◌∙◌, arith}
-use Rattle.std.specs.List.{range_with_len}
 use Rattle.std.proofs.lemmas.List.Elements.{All-get_or, All-from_get_or}
 use Rattle.std.proofs.lemmas.List.FromFn.{get_or-map-range_with_len}
 use Rattle.bolt_base.specs.Keep.{Entry, Row, column, stored, read}
 use Rattle.bolt_base.specs.RowTable.{entry_at}
-use Rattle.bolt_base.specs.RowShape.{AreFull}
 use Rattle.bolt_base.proofs.RowColumns.{column_read, same_rows, made_at, made_full, made_length}
 use Rattle.agg_history.specs.Entries.{entry_in}
 use Rattle.agg_history.specs.Pruned.{track_of, read_at, rows_from, first_row, pruned}

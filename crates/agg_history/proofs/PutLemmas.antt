@@ -1,5 +1,6 @@
 -- Puts laid over rows.
-use Rattle.std.proofs.Common.{◌≡◌, ◌≢◌, ℕ, zero, suc, ◌<◌, cond, eqb, List, [], ◌∷◌, ◌++◌, length, Option, Some, None, inl, inr, refl, sym, ap, ◌∙◌, arith}
+use Rattle.std.proofs.Common.{◌≡◌, ◌≢◌, ℕ, zero, suc, ◌<◌, cond, eqb, List, [], ◌∷◌, ◌++◌, length}
+use Rattle.std.proofs.Common.{Option, Some, None, inl, inr, refl, sym, ap, ◌∙◌, arith}
 use Rattle.std.specs.Map.{lookup}
 use Rattle.std.specs.Option.{unwrap_or}
 use Rattle.std.proofs.lemmas.List.{get_or-set_same, get_or-set_other}
@@ -9,7 +10,8 @@ use Rattle.bolt_base.specs.Keep.{Entry, Row}
 use Rattle.bolt_base.specs.RowTable.{entry_at}
 use Rattle.bolt_base.proofs.RowColumns.{same_rows, made_at, made_full, made_length}
 use Rattle.agg_history.specs.Puts.{Round, round_at, put_at, with_put, laid_at, laid_over}
-use Rattle.agg_history.specs.Laws.{LeadsTo, LaidOverIsNew, LaidOverReads, PutIsFound, NoneIsPut, RightPutsStayRight}
+use Rattle.agg_history.specs.Laws.{LeadsTo, LaidOverIsNew, LaidOverReads, PutIsFound, NoneIsPut}
+use Rattle.agg_history.specs.Laws.{RightPutsStayRight}
 
 pub laid_reads : LaidOverReads
 laid_reads n puts rows i v h l = made_at (laid_at puts rows) n (length rows) i v h l

@@ -1,5 +1,6 @@
 -- For each vertex and iteration a place, 0 where there is none.
-use Rattle.std.specs.Prelude.{ℕ, zero, suc, ◌*◌, List, [], take, drop, replicate, slice_index, slice_index_or, refl}
+use Rattle.std.specs.Prelude.{ℕ, zero, suc, ◌*◌, List, [], take, drop, replicate, slice_index}
+use Rattle.std.specs.Prelude.{slice_index_or, refl}
 use Rattle.std.specs.Coded.{Coded, code_by, coded×, coded_ℕ, coded_list}
 
 -- a line of so many places for each vertex, and the vertices that may have one that isn't 0

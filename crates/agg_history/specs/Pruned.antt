@@ -1,5 +1,6 @@
 -- A history: row 0 and the kept entries of each vertex, and the rows that they stand for.
-use Rattle.std.specs.Prelude.{◌≡◌, ℕ, ◌+◌, Bool, List, [], map, length, slice_index_or, Option, None, refl}
+use Rattle.std.specs.Prelude.{ℕ, ◌+◌, Bool, List, [], map, length, slice_index_or, Option}
+use Rattle.std.specs.Prelude.{None, refl}
 use Rattle.std.specs.List.{range_with_len}
 use Rattle.std.specs.Coded.{Coded, code_by, coded×, coded_ℕ, coded_bool, coded_list, coded_option}
 use Rattle.bolt_base.specs.Keep.{Entry, Row, column, stored, read}

@@ -1,5 +1,6 @@
 -- What is put over the rows of a run, and the rows with it over them.
-use Rattle.std.specs.Prelude.{◌≡◌, ℕ, ◌==◌, List, [], ◌∷◌, ◌+◌, ◌++◌, map, replicate, length, slice_index_or, slice_set, Option, unwrap_or, refl, Some}
+use Rattle.std.specs.Prelude.{◌≡◌, ℕ, ◌==◌, List, [], ◌∷◌, ◌+◌, ◌++◌, map, replicate, length}
+use Rattle.std.specs.Prelude.{slice_index_or, slice_set, Option, unwrap_or, refl, Some}
 use Rattle.std.specs.List.{range_with_len}
 use Rattle.std.specs.Map.{lookup}
 use Rattle.std.specs.Coded.{Coded, code_by, coded×, coded_ℕ, coded_list}

@@ -1,5 +1,6 @@
 // Laws of the definitions. Nothing runs here.
-ghost use Rattle.agg_history.specs.Laws.{PrunedStandsForRows, LaidOverIsNew, LaidOverReads, PutIsFound, NoneIsPut, RightPutsStayRight};
+ghost use Rattle.agg_history.specs.Laws.{PrunedStandsForRows, LaidOverIsNew, LaidOverReads};
+ghost use Rattle.agg_history.specs.Laws.{PutIsFound, NoneIsPut, RightPutsStayRight};
 
 /// What is kept of rows stands for these rows.
 pub fn pruned_stands_for_rows()

@@ -1,6 +1,9 @@
 // What a batch puts over a history.
-ghost use Rattle.std.specs.Prelude.{◌≡◌, ◌↔◌, IsTrue, ℕ, pos, false, ◌==◌, ◌+◌, ◌<◌, ◌≤◌, ◌^◌, ◌++◌, ◌∷◌, [], length, map, replicate, slice_index_or, Some, None, IsSome, IfOk, OnOk, OnErr};
-ghost use Rattle.agg_history.specs.Puts.{IsPutMore, no_puts_for, round_at, put_at, with_put, laid_at};
+ghost use Rattle.std.specs.Prelude.{◌≡◌, ◌↔◌, IsTrue, ℕ, pos, false, ◌==◌, ◌+◌, ◌<◌, ◌≤◌, ◌^◌};
+ghost use Rattle.std.specs.Prelude.{◌++◌, ◌∷◌, [], length, map, replicate, slice_index_or, Some};
+ghost use Rattle.std.specs.Prelude.{None, IsSome, IfOk, OnOk, OnErr};
+ghost use Rattle.agg_history.specs.Puts.{IsPutMore, no_puts_for, round_at, put_at, with_put};
+ghost use Rattle.agg_history.specs.Puts.{laid_at};
 ghost use Rattle.agg_history.specs.PutList.{put_in};
 ghost use Rattle.agg_history.specs.Pruned.{rows_of};
 ghost use Rattle.agg_history.specs.Belongs.{BelongsTo, HaveNoPut};

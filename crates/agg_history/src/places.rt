@@ -1,5 +1,6 @@
 // Where the entries that were put stand.
-ghost use Rattle.std.specs.Prelude.{◌≡◌, ℕ, ◌+◌, ◌<◌, ◌≤◌, ◌^◌, ◌==◌, true, false, [], length, replicate, slice_set, slice_index_or, IfOk, OnOk};
+ghost use Rattle.std.specs.Prelude.{◌≡◌, ℕ, ◌+◌, ◌<◌, ◌≤◌, ◌^◌, ◌==◌, true, false, [], length};
+ghost use Rattle.std.specs.Prelude.{replicate, slice_set, slice_index_or, IfOk, OnOk};
 ghost use Rattle.std.specs.List.{All, IsDistinct, list_any};
 ghost use Rattle.agg_history.specs.Places.{place_at};
 
@@ -7,8 +8,7 @@ use std::alloc::{AllocError, Global};
 use std::marker::Model;
 
 /// A place for each vertex and iteration, 0 where there is none. It costs 4 bytes a vertex, and a
-/// line of
-/// places for each vertex that was touched.
+/// line of places for each vertex that was touched.
 #[derive(Debug, Drop)]
 pub struct Places {
     width: u32,

@@ -10,10 +10,11 @@ use Rattle.agg_words.specs.declared.layout.Layout.{Layout}
 
 -- what one view says of the whole table: each other view is empty, and the words and bits are what
 -- it says
-pub record TellsAll (k : Layout) (words : List ℕ) (views : List View) (i : ℕ) (v : View) : Type 0 where
-  pub others : (j : ℕ) (u : View) → j ≢ i → get_elem? views j ≡ some u → (u.units ≡ 0) × IsBare u
-  pub sums : (w : ℕ) → w < k.words → slice_index words w ≡ sum_at w v.amounts
-  pub bits : (bit : ℕ) → bit_of k words bit ≡ times bit v.marks
+pub record TellsAll (k : Layout) (words : List ℕ) (views : List View) (i : ℕ) (v : View) : Type 0
+  where
+    pub others : (j : ℕ) (u : View) → j ≢ i → get_elem? views j ≡ some u → (u.units ≡ 0) × IsBare u
+    pub sums : (w : ℕ) → w < k.words → slice_index words w ≡ sum_at w v.amounts
+    pub bits : (bit : ℕ) → bit_of k words bit ≡ times bit v.marks
 
 -- wherever the rule holds, a view with all units tells all
 abbrev pub FullSeatTellsAll : Type 0

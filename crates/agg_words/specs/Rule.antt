@@ -1,5 +1,6 @@
 -- What holds of a table between any two steps.
-use Rattle.std.specs.Prelude.{◌≡◌, ℕ, ◌+◌, ◌/◌, ◌%◌, ◌<◌, ◌≤◌, max, List, All, flat_map, length, slice_index, sum_by}
+use Rattle.std.specs.Prelude.{◌≡◌, ℕ, ◌+◌, ◌/◌, ◌%◌, ◌<◌, ◌≤◌, max, List, All, flat_map, length}
+use Rattle.std.specs.Prelude.{slice_index, sum_by}
 use Rattle.std.specs.Int.{bit_at}
 use Rattle.bolt_base.specs.Residue.{sum_at}
 use Rattle.agg_words.specs.View.{View, IsBare, bare, times}

@@ -1,5 +1,6 @@
 -- What a seat knows, and how each call changes it.
-use Rattle.std.specs.Prelude.{◌≡◌, ℕ, zero, suc, pos, neg_ℤ, ◌+◌, ◌-◌, ◌/◌, ◌==◌, Bool, not, if◌then◌else◌, List, [], ◌∷◌, ◌++◌, filter, count_by}
+use Rattle.std.specs.Prelude.{◌≡◌, ℕ, zero, suc, pos, neg_ℤ, ◌+◌, ◌-◌, ◌/◌, ◌==◌, Bool, not}
+use Rattle.std.specs.Prelude.{if◌then◌else◌, List, [], ◌∷◌, ◌++◌, filter, count_by}
 use Rattle.std.specs.List.{list_any}
 use Rattle.bolt_base.specs.Residue.{Amount, residue, sum_at}
 

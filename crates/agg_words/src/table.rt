@@ -2,7 +2,8 @@
 ghost use Rattle.std.specs.Prelude.{◌≡◌, ℕ, ◌/◌, ◌<◌, ◌≤◌, IfOk};
 ghost use Rattle.std.specs.Int.{cast_signed, w64};
 ghost use Rattle.bolt_base.specs.Residue.{sum_at};
-ghost use Rattle.agg_words.specs.View.{IsGone, bare, joined, with_amount, with_bit, with_fewer, with_taken, without_word};
+ghost use Rattle.agg_words.specs.View.{IsGone, bare, joined, with_amount, with_bit, with_fewer};
+ghost use Rattle.agg_words.specs.View.{with_taken, without_word};
 ghost use Rattle.agg_words.specs.Rule.{mark_words};
 ghost use Rattle.agg_words.specs.Known.{IsClear, IsKnown, MarksOnce};
 ghost use Rattle.agg_words.specs.Facts.{word_count};

@@ -5,7 +5,8 @@ use Rattle.std.specs.Prelude.{ℕ, Bool, true, List, length}
 abbrev pub Content : Type 0
 Content = List ℕ → List ℕ
 
--- a file that a command reads: its name, how many of its bytes it is read far, and whether it is read to its end
+-- a file that a command reads: its name, how many of its bytes it is read far, and whether it is
+-- read to its end
 pub record Named : Type 0 where
   pub name : List ℕ
   pub far : ℕ

@@ -1,5 +1,5 @@
 -- What edits leave as it was, and edits in two lists.
-use Rattle.std.proofs.Common.{◌≡◌, ◌≢◌, ℕ, ℤ, pos, ◌+◌, ◌≤◌, Bool, true, false, ◌||◌, ◌&&◌, cond}
+use Rattle.std.proofs.Common.{◌≡◌, ◌≢◌, ℕ, ℤ, pos, ◌+◌, ◌≤◌, true, false, ◌&&◌, cond}
 use Rattle.std.proofs.Common.{eqb, List, [], ◌∷◌, ◌++◌, length, get_or, set, refl, sym, ap, ◌∙◌}
 use Rattle.std.proofs.Common.{arith, inl, inr, Some, None}
 use Rattle.std.specs.Ordering.{eq_by_cmp}
@@ -27,7 +27,9 @@ pub pair_apart : (k : Pair) (s d : ℕ) → (eqb s k.0 && eqb d k.1) ≡ false
     → eq_by_cmp pair_cmp k (s, d) ≡ false
 pair_apart k s d e = elim (cases_eq s k.0) [
   | inl same ↦ elim (cases_eq d k.1) [
-    | inl last ↦ let all : (eqb s k.0 && eqb d k.1) ≡ true = λ j. eq-eqb s k.0 same j && eq-eqb d k.1 last j in absurd (let t : true ≡ false = sym all ∙ e in cc)
+    | inl last ↦ let all : (eqb s k.0 && eqb d k.1)
+        ≡ true = λ j. eq-eqb s k.0 same j && eq-eqb d k.1 last j in absurd
+        (let t : true ≡ false = sym all ∙ e in cc)
     | inr other ↦ apart_dst k.0 k.1 s d (λ q. other (sym q))
   ]
   | inr other ↦ other_src k.0 k.1 s d (λ q. other (sym q))
@@ -39,7 +41,8 @@ weight_stays g (Add e) k h =
     finite.get-insert pairs_total g.weights (e.src, e.dst) e.weight k
     ∙ ap (λ b. cond b (Some e.weight) (finite.get g.weights k)) (pair_apart k e.src e.dst h)
 weight_stays g (Cut s d) k h =
-    finite.get-remove pairs_total g.weights (s, d) k ∙ ap (λ b. cond b None (finite.get g.weights k)) (pair_apart k s d h)
+    finite.get-remove pairs_total g.weights (s, d) k
+    ∙ ap (λ b. cond b None (finite.get g.weights k)) (pair_apart k s d h)
 weight_stays g (Attr v a) k h = refl
 
 pub unnamed_pairs_stay : UnnamedPairsStay
@@ -52,19 +55,27 @@ unnamed_pairs_stay g (e ∷ es) k h =
 attr_apart : (attrs : List ℤ) (v u : ℕ) (a : ℤ) → v ≢ u
     → get_or (with_attr attrs v a) u (pos 0) ≡ get_or attrs u (pos 0)
 attr_apart attrs v u a apart = elim (cases_eq v (length attrs)) [
-  | inl last ↦ ap (λ b. get_or (cond b (attrs ++ a ∷ []) (set attrs v a)) u (pos 0)) (eq-eqb v (length attrs) last) ∙ elim (cases_lt u (length attrs)) [
-    | inl below ↦ get_or_append_left attrs (a ∷ []) (pos 0) u below
-    | inr past ↦ get_or_past (attrs ++ a ∷ []) u (pos 0) (let other : u ≢ v = λ q. apart (sym q) in let long = length-append attrs (a ∷ []) in above u (length attrs) past (λ q. other (q ∙ sym last)) long) ∙ sym (get_or_past attrs u (pos 0) past)
-  ]
-  | inr other ↦ ap (λ b. get_or (cond b (attrs ++ a ∷ []) (set attrs v a)) u (pos 0)) (ne v (length attrs) other) ∙ get_or-set_other attrs v u a (pos 0) (λ q. apart (sym q))
+  | inl last ↦ ap (λ b. get_or (cond b (attrs ++ a ∷ []) (set attrs v a)) u (pos 0))
+      (eq-eqb v (length attrs) last) ∙ elim (cases_lt u (length attrs)) [
+        | inl below ↦ get_or_append_left attrs (a ∷ []) (pos 0) u below
+        | inr past ↦ get_or_past (attrs ++ a ∷ []) u (pos 0)
+            (let other : u ≢ v = λ q. apart (sym q) in let long = length-append attrs (a ∷ []) in
+            above
+            u (length attrs) past (λ q. other (q ∙ sym last)) long)
+            ∙ sym (get_or_past attrs u (pos 0) past)
+      ]
+  | inr other ↦ ap (λ b. get_or (cond b (attrs ++ a ∷ []) (set attrs v a)) u (pos 0))
+      (ne v (length attrs) other) ∙ get_or-set_other attrs v u a (pos 0) (λ q. apart (sym q))
 ]
   where
     above : (u n : ℕ) → n ≤ u → u ≢ n → length (attrs ++ a ∷ []) ≡ n + 1
         → length (attrs ++ a ∷ []) ≤ u
-    above u n h apart long = elim (cases_lt n u) [ inl l ↦ omega arith | inr l ↦ absurd (apart (omega arith)) ]
+    above u n h apart long = elim (cases_lt n u)
+        [ inl l ↦ omega arith | inr l ↦ absurd (apart (omega arith)) ]
 
     ne : (a b : ℕ) → a ≢ b → eqb a b ≡ false
-    ne a b n = elim (eqb a b) as (λ t. eqb a b ≡ t → t ≡ false) [ true ↦ λ e. absurd (n (eqb-true a b e)) | false ↦ λ _. refl ] refl
+    ne a b n = elim (eqb a b) as (λ t. eqb a b ≡ t → t ≡ false)
+        [ true ↦ λ e. absurd (n (eqb-true a b e)) | false ↦ λ _. refl ] refl
 
 attr_stays : (g : Graph) (e : Edit) (u : ℕ) → names_vertex u e ≡ false
     → attr_at (edited g e) u ≡ attr_at g u
@@ -86,7 +97,8 @@ vertices_stay g (Attr v a) = omega (arith, length-with_attr g.attrs v a)
 
 pub no_vertex_lost : NoVertexIsLost
 no_vertex_lost g [] = omega arith
-no_vertex_lost g (e ∷ es) = let here = vertices_stay g e in let rest = no_vertex_lost (edited g e) es in omega arith
+no_vertex_lost g (e ∷ es) = let here = vertices_stay g e in let rest = no_vertex_lost (edited g e)
+    es in omega arith
 
 -- ---- edits in two lists
 -- counted from n edits later, the first bad edit stands n places later
@@ -94,16 +106,21 @@ pub bad_from-later : (l : Limits) (g : Graph) (n k : ℕ) (es : List Edit)
     → bad_from l g (n + k) es ≡ bad_then None n (bad_from l g k es)
 bad_from-later l g n k [] = refl
 bad_from-later l g n k (e ∷ es) =
-    elim (one l g e) as (λ o. bad_or o (n + k) (bad_from l (edited g e) (n + k + 1) es) ≡ bad_then None n (bad_or o k (bad_from l (edited g e) (k + 1) es))) [
-      | None ↦ ap (λ m. bad_from l (edited g e) m es) (let m : n + k + 1 ≡ n + (k + 1) = omega arith in m) ∙ bad_from-later l (edited g e) n (k + 1) es
+    elim (one l g e) as (λ o. bad_or o (n + k) (bad_from l (edited g e) (n + k + 1) es)
+    ≡ bad_then None n (bad_or o k (bad_from l (edited g e) (k + 1) es))) [
+      | None ↦ ap (λ m. bad_from l (edited g e) m es)
+          (let m : n + k + 1 ≡ n + (k + 1) = omega arith in m)
+          ∙ bad_from-later l (edited g e) n (k + 1) es
       | Some cause ↦ refl
     ]
 
 pub bad-append : BadAppends
 bad-append l g xs ys =
-    elim (bad l g xs) as (λ o. bad l g xs ≡ o → bad l g (xs ++ ys) ≡ bad_then o (length xs) (bad l (after g xs) ys)) [
+    elim (bad l g xs) as (λ o. bad l g xs ≡ o → bad l g (xs ++ ys)
+    ≡ bad_then o (length xs) (bad l (after g xs) ys)) [
       | None ↦ λ e. bad_from-append l g 0 xs ys e
-          ∙ ap (λ m. bad_from l (after g xs) m ys) (let m : 0 + length xs ≡ length xs + 0 = omega arith in m)
+          ∙ ap (λ m. bad_from l (after g xs) m ys)
+          (let m : 0 + length xs ≡ length xs + 0 = omega arith in m)
           ∙ bad_from-later l (after g xs) (length xs) 0 ys
       | Some p ↦ λ e. bad_from-stays l g 0 xs ys p e
     ] refl

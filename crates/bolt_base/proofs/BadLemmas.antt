@@ -25,31 +25,39 @@ pub bad_from-append : (l : Limits) (g : Graph) (k : ℕ) (xs ys : List Edit)
 bad_from-append l g k [] ys h = ap (λ n. bad_from l g n ys) (let e : k ≡ k + 0 = omega arith in e)
 bad_from-append l g k (x ∷ xs) ys h =
     let parts = first_good (one l g x) k (bad_from l (edited g x) (k + 1) xs) h in
-    ap (λ o. bad_or o k (bad_from l (edited g x) (k + 1) (xs ++ ys))) parts.0 ∙ bad_from-append l (edited g x) (k + 1) xs ys parts.1
-    ∙ ap (λ n. bad_from l (after (edited g x) xs) n ys) (let e : k + 1 + length xs ≡ k + suc (length xs) = omega arith in e)
+    ap (λ o. bad_or o k (bad_from l (edited g x) (k + 1) (xs ++ ys))) parts.0
+    ∙ bad_from-append l (edited g x) (k + 1) xs ys parts.1
+    ∙ ap (λ n. bad_from l (after (edited g x) xs) n ys)
+    (let e : k + 1 + length xs ≡ k + suc (length xs) = omega arith in e)
 
 -- what was bad stays so, whatever follows
 pub bad_from-stays : (l : Limits) (g : Graph) (k : ℕ) (xs ys : List Edit) (p : ℕ × LineCause)
     → bad_from l g k xs ≡ Some p → bad_from l g k (xs ++ ys) ≡ Some p
 bad_from-stays l g k [] ys p h = cc
-bad_from-stays l g k (x ∷ xs) ys p h = later (one l g x) (λ e. bad_from-stays l (edited g x) (k + 1) xs ys p e) h
+bad_from-stays l g k (x ∷ xs) ys p h = later (one l g x)
+    (λ e. bad_from-stays l (edited g x) (k + 1) xs ys p e) h
   where
     later : (o : Option LineCause)
-        → (bad_from l (edited g x) (k + 1) xs ≡ Some p → bad_from l (edited g x) (k + 1) (xs ++ ys) ≡ Some p)
-        → bad_or o k (bad_from l (edited g x) (k + 1) xs) ≡ Some p → bad_or o k (bad_from l (edited g x) (k + 1) (xs ++ ys)) ≡ Some p
+        → (bad_from l (edited g x) (k + 1) xs ≡ Some p
+        → bad_from l (edited g x) (k + 1) (xs ++ ys) ≡ Some p)
+        → bad_or o k (bad_from l (edited g x) (k + 1) xs) ≡ Some p
+        → bad_or o k (bad_from l (edited g x) (k + 1) (xs ++ ys)) ≡ Some p
     later None more e = more e
     later (Some cause) more e = e
 
 -- ---- the first one
 -- of the edits from place k on
 abbrev AnswersFrom : Limits → Graph → ℕ → List Edit → Option (ℕ × LineCause) → Type 0
-AnswersFrom l g k edits o = MatchOption o (NoneIsBad l g edits) (λ p. (k ≤ p.0) × IsFirstBad l g edits (p.0 - k) p.1)
+AnswersFrom l g k edits o = MatchOption o (NoneIsBad l g edits)
+    (λ p. (k ≤ p.0) × IsFirstBad l g edits (p.0 - k) p.1)
 
 module _ (l : Limits) (g : Graph) (e : Edit) (es : List Edit) (k : ℕ) where
-  here : (cause : LineCause) → one l g e ≡ Some cause → AnswersFrom l g k (e ∷ es) (Some (k, cause))
-  here cause is = (
+  bad_here : (cause : LineCause) → one l g e ≡ Some cause
+      → AnswersFrom l g k (e ∷ es) (Some (k, cause))
+  bad_here cause is = (
     omega arith,
-    subst (λ n. IsFirstBad l g (e ∷ es) n cause) (let z : 0 ≡ k - k = omega arith in z) (record { inside = omega arith; bad = λ d. is; before = λ j d h. absurd (omega arith) }),
+    subst (λ n. IsFirstBad l g (e ∷ es) n cause) (let z : 0 ≡ k - k = omega arith in z)
+        (record { inside = omega arith; bad = λ d. is; before = λ j d h. absurd (omega arith) }),
   )
 
   none_here : (o : Option (ℕ × LineCause)) → one l g e ≡ None
@@ -63,8 +71,13 @@ module _ (l : Limits) (g : Graph) (e : Edit) (es : List Edit) (k : ℕ) where
       let past = rest.0 in
       let first = rest.1 in (
         omega arith,
-        subst (λ n. IsFirstBad l g (e ∷ es) n p.1) (let z : suc (p.0 - (k + 1)) ≡ p.0 - k = omega arith in z)
-            (record { inside = let inside = first.inside in omega arith; bad = first.bad; before = before first }),
+        subst (λ n. IsFirstBad l g (e ∷ es) n p.1)
+            (let z : suc (p.0 - (k + 1)) ≡ p.0 - k = omega arith in z)
+            (record {
+              inside = let inside = first.inside in omega arith;
+              bad = first.bad;
+              before = before first;
+            }),
       )
     where
       before : IsFirstBad l (edited g e) es (p.0 - (k + 1)) p.1 → (j : ℕ) (d : Edit)
@@ -77,9 +90,10 @@ pub answers_from : (l : Limits) (g : Graph) (k : ℕ) (edits : List Edit)
 answers_from l g k [] = λ j d h. absurd (omega arith)
 answers_from l g k (e ∷ es) =
     let rest = answers_from l (edited g e) (k + 1) es in
-    elim (one l g e) as (λ o. one l g e ≡ o → AnswersFrom l g k (e ∷ es) (bad_or o k (bad_from l (edited g e) (k + 1) es))) [
+    elim (one l g e) as (λ o. one l g e ≡ o
+    → AnswersFrom l g k (e ∷ es) (bad_or o k (bad_from l (edited g e) (k + 1) es))) [
       | None ↦ λ is. none_here l g e es k (bad_from l (edited g e) (k + 1) es) is rest
-      | Some cause ↦ λ is. here l g e es k cause is
+      | Some cause ↦ λ is. bad_here l g e es k cause is
     ] refl
 
 pub bad_first : (l : Limits) (g : Graph) (edits : List Edit)
@@ -89,4 +103,5 @@ bad_first l g edits = from_front (bad_from l g 0 edits) (answers_from l g 0 edit
     from_front : (o : Option (ℕ × LineCause)) → AnswersFrom l g 0 edits o
         → MatchOption o (NoneIsBad l g edits) (λ p. IsFirstBad l g edits p.0 p.1)
     from_front None h = h
-    from_front (Some p) h = subst (λ n. IsFirstBad l g edits n p.1) (let z : p.0 - 0 ≡ p.0 = omega arith in z) h.1
+    from_front (Some p) h = subst (λ n. IsFirstBad l g edits n p.1)
+        (let z : p.0 - 0 ≡ p.0 = omega arith in z) h.1

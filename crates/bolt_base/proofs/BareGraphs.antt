@@ -19,15 +19,20 @@ no_items (x ∷ es) e = absurd (omega arith)
 pub bare_good : (l : Limits) (attrs : List ℤ) → length attrs ≤ l.vertices
     → All (λ a. IsBetween l.attr_lo l.attr_hi a) attrs → IsGood l (graph_of attrs [])
 bare_good l attrs few within =
-    let none : edges (graph_of attrs []) ≡ [] = no_items (edges (graph_of attrs [])) (length-graph_of attrs [] tt) in
+    let none : edges (graph_of attrs [])
+    ≡ [] = no_items (edges (graph_of attrs [])) (length-graph_of attrs [] tt) in
     record {
       few_vertices = few;
       few_edges = let e = ap length none in omega arith;
       attrs = within;
-      weights = subst (λ es. All (λ (e : Edge). IsBetween l.weight_lo l.weight_hi e.weight) es) (sym none) (All-nil (λ (e : Edge). IsBetween l.weight_lo l.weight_hi e.weight));
-      ends = subst (λ es. All (λ (e : Edge). (e.src < length attrs) × (e.dst < length attrs)) es) (sym none) (All-nil (λ (e : Edge). (e.src < length attrs) × (e.dst < length attrs)));
-      out_degrees = λ u. let e = ap (λ es. length (filter (λ (x : Edge). x.src == u) es)) none in omega arith;
-      in_degrees = λ v. let e = ap (λ es. length (filter (λ (x : Edge). x.dst == v) es)) none in omega arith;
+      weights = subst (λ es. All (λ (e : Edge). IsBetween l.weight_lo l.weight_hi e.weight) es)
+          (sym none) (All-nil (λ (e : Edge). IsBetween l.weight_lo l.weight_hi e.weight));
+      ends = subst (λ es. All (λ (e : Edge). (e.src < length attrs) × (e.dst < length attrs)) es)
+          (sym none) (All-nil (λ (e : Edge). (e.src < length attrs) × (e.dst < length attrs)));
+      out_degrees = λ u. let e = ap (λ es. length (filter (λ (x : Edge). x.src == u) es)) none in
+          omega arith;
+      in_degrees = λ v. let e = ap (λ es. length (filter (λ (x : Edge). x.dst == v) es)) none in
+          omega arith;
     }
 
 -- the edges are as many as the weights

@@ -1,3 +1,4 @@
+pub mod ListLemmas
 pub mod EdgeMap
 pub mod Order
 pub mod EditLemmas

@@ -12,23 +12,28 @@ use Rattle.bolt_base.specs.Residue.{Amount, residue, sum_at}
 use Rattle.bolt_base.proofs.Totals.{total, fold-total}
 
 -- a natural number is the number and some turns of 2^64
-turns : (z : ℤ) → (k : ℕ) × (m : ℕ) × (z +ℤ pos (k * 2 ^ 64) ≡ pos m)
-turns (pos n) = (0, n, omega (arith, ints))
-turns (negsuc n) = (suc n, suc n * (2 ^ 64 - 1), omega (arith, ints))
+natural_by_turns : (z : ℤ) → (k : ℕ) × (m : ℕ) × (z +ℤ pos (k * 2 ^ 64) ≡ pos m)
+natural_by_turns (pos n) = (0, n, omega (arith, ints))
+natural_by_turns (negsuc n) = (suc n, suc n * (2 ^ 64 - 1), omega (arith, ints))
 
 residue_is : (z : ℤ) (k m : ℕ) → z +ℤ pos (k * 2 ^ 64) ≡ pos m → residue z ≡ m % 2 ^ 64
-residue_is z k m e = ap unsigned_abs (int_rem_euclid_is z (pos (2 ^ 64)) (2 ^ 64) k m (omega arith) refl e)
+residue_is z k m e = ap unsigned_abs
+    (int_rem_euclid_is z (pos (2 ^ 64)) (2 ^ 64) k m (omega arith) refl e)
 
 pub residue-lt : (z : ℤ) → residue z < 2 ^ 64
-residue-lt z = let t = turns z in let is = residue_is z t.0 t.1 t.2 in let below = mod-lt (t.1) {m = 2 ^ 64} (omega arith) in omega arith
+residue-lt z = let t = natural_by_turns z in let is = residue_is z t.0 t.1 t.2 in let below =
+    mod-lt (t.1)
+    {m = 2 ^ 64} (omega arith) in omega arith
 
 pub residue-add : (a b : ℤ) → residue (a +ℤ b) ≡ (residue a + residue b) % 2 ^ 64
 residue-add a b =
-    let s = turns a in
-    let t = turns b in
-    let both : (a +ℤ b) +ℤ pos ((s.0 + t.0) * 2 ^ 64) ≡ pos (s.1 + t.1) = omega (arith, ints, s.2, t.2) in
+    let s = natural_by_turns a in
+    let t = natural_by_turns b in
+    let both : (a +ℤ b) +ℤ pos ((s.0 + t.0) * 2 ^ 64)
+    ≡ pos (s.1 + t.1) = omega (arith, ints, s.2, t.2) in
     residue_is (a +ℤ b) (s.0 + t.0) (s.1 + t.1) both ∙ add-mod (s.1) (t.1) (2 ^ 64)
-    ∙ ap (λ x. (x + t.1 % 2 ^ 64) % 2 ^ 64) (sym (residue_is a s.0 s.1 s.2)) ∙ ap (λ x. (residue a + x) % 2 ^ 64) (sym (residue_is b t.0 t.1 t.2))
+    ∙ ap (λ x. (x + t.1 % 2 ^ 64) % 2 ^ 64) (sym (residue_is a s.0 s.1 s.2))
+    ∙ ap (λ x. (residue a + x) % 2 ^ 64) (sym (residue_is b t.0 t.1 t.2))
 
 -- a number that fits i64 is its residue, read as two's complement
 pub signed-residue : (z : ℤ) → FitsSigned w64 z → cast_signed w64 (residue z) ≡ z
@@ -40,7 +45,8 @@ pub sum_at-append : (w : ℕ) (a b : List Amount)
 sum_at-append w a b =
     let at : Amount → Bool = λ x. eqb x.word w in
     let amount : Amount → ℕ = λ x. x.amount in
-    ap (λ xs. sum_by amount xs % 2 ^ 64) (filter-append at a b) ∙ ap (λ n. n % 2 ^ 64) (sum_by-append amount (filter at a) (filter at b))
+    ap (λ xs. sum_by amount xs % 2 ^ 64) (filter-append at a b)
+    ∙ ap (λ n. n % 2 ^ 64) (sum_by-append amount (filter at a) (filter at b))
     ∙ add-mod (sum_by amount (filter at a)) (sum_by amount (filter at b)) (2 ^ 64)
 
 -- many residues sum to the residue of the sum
@@ -57,4 +63,5 @@ pub residues-fold : (zs : List ℤ)
     → sum_by residue zs % 2 ^ 64 ≡ residue (fold (λ sum z. sum +ℤ z) (pos 0) zs)
 residues-fold zs =
     residues-total (λ z. z) zs
-    ∙ ap residue (let e : total (λ z. z) zs ≡ pos 0 +ℤ total (λ z. z) zs = omega (arith, ints) in e ∙ sym (fold-total (λ z. z) (pos 0) zs))
+    ∙ ap residue (let e : total (λ z. z) zs ≡ pos 0 +ℤ total (λ z. z) zs = omega (arith, ints) in e
+    ∙ sym (fold-total (λ z. z) (pos 0) zs))

@@ -26,28 +26,38 @@ pub column_read : (vertical : Bool) (rows : List Row) (v i : ℕ) → i < length
     → read (entry_at rows 0 v) (stored vertical (column rows v)) i ≡ entry_at rows i v
 column_read vertical [] v i h = absurd (omega arith)
 column_read vertical (r ∷ rows) v i h =
-    read_stored vertical (get_or r v no_entry) (column rows v) i (omega (arith, length-column rows v)) ∙ column_at (r ∷ rows) v i h
+    read_stored vertical (get_or r v no_entry) (column rows v) i
+    (omega (arith, length-column rows v)) ∙ column_at (r ∷ rows) v i h
 
 -- rows with the same entries are the same
 pub same_rows : SameEntriesAreSameRows
 same_rows n a b long full_a full_b same = ext_get_or [] a b long (λ i h.
     let wide_a : length (get_or a i []) ≡ n = All-get_or (λ row. length row ≡ n) a i [] h full_a in
-    let wide_b : length (get_or b i []) ≡ n = All-get_or (λ row. length row ≡ n) b i [] (omega arith) full_b in
-    ext_get_or no_entry (get_or a i []) (get_or b i []) (wide_a ∙ sym wide_b) (λ v l. same i v h (omega arith)))
+    let wide_b : length (get_or b i [])
+    ≡ n = All-get_or (λ row. length row ≡ n) b i [] (omega arith) full_b in
+    ext_get_or no_entry (get_or a i []) (get_or b i []) (wide_a ∙ sym wide_b)
+    (λ v l. same i v h (omega arith)))
 
 -- ---- rows that are made of their entries
 module _ (f : ℕ → ℕ → Entry) (n m : ℕ) where
   pub made_row : (i : ℕ) → i < m
-      → get_or (map (λ i. map (f i) (range_with_len 0 n)) (range_with_len 0 m)) i [] ≡ map (f i) (range_with_len 0 n)
-  made_row i h = get_or-map-range_with_len (λ i. map (f i) (range_with_len 0 n)) 0 m i i [] h (omega arith)
+      → get_or (map (λ i. map (f i) (range_with_len 0 n)) (range_with_len 0 m)) i []
+      ≡ map (f i) (range_with_len 0 n)
+  made_row i h = get_or-map-range_with_len (λ i. map (f i) (range_with_len 0 n)) 0 m i i [] h
+      (omega arith)
 
   pub made_at : (i v : ℕ) → i < m → v < n
       → entry_at (map (λ i. map (f i) (range_with_len 0 n)) (range_with_len 0 m)) i v ≡ f i v
-  made_at i v h l = ap (λ row. get_or row v no_entry) (made_row i h) ∙ get_or-map-range_with_len (f i) 0 n v v no_entry l (omega arith)
+  made_at i v h l = ap (λ row. get_or row v no_entry) (made_row i h)
+      ∙ get_or-map-range_with_len (f i) 0 n v v no_entry l (omega arith)
 
   pub made_full : AreFull n (map (λ i. map (f i) (range_with_len 0 n)) (range_with_len 0 m))
   made_full = All-from_get_or (λ row. length row ≡ n) _ [] (λ i h.
-      let l : i < m = omega (arith, length-map-range_with_len (λ i. map (f i) (range_with_len 0 n)) 0 m) in
+      let l : i < m = omega (
+        arith,
+        length-map-range_with_len (λ i. map (f i) (range_with_len 0 n))
+            0 m,
+      ) in
       ap length (made_row i l) ∙ length-map-range_with_len (f i) 0 n)
 
   pub made_length : length (map (λ i. map (f i) (range_with_len 0 n)) (range_with_len 0 m)) ≡ m
@@ -64,12 +74,14 @@ length-stored vertical es some =
     omega (arith, length-take (keep vertical es) (drop 1 es), length-drop 1 es)
 
 sum_stored : (vertical : Bool) (rows : List Row) (vs : List ℕ) → 0 < length rows
-    → sum_by (λ track. length track) (map (λ v. stored vertical (column rows v)) vs) ≡ sum_by (λ v. keep vertical (column rows v)) vs
+    → sum_by (λ track. length track) (map (λ v. stored vertical (column rows v)) vs)
+    ≡ sum_by (λ v. keep vertical (column rows v)) vs
 sum_stored vertical rows [] some = refl
 sum_stored vertical rows (v ∷ vs) some =
     let here = length-stored vertical (column rows v) (omega (arith, length-column rows v)) in
     let track : ℕ → List Entry = λ u. stored vertical (column rows u) in
-    sum_by-cons (λ (es : List Entry). length es) (track v) (map track vs) ∙ (λ i. here i + sum_stored vertical rows vs some i)
+    sum_by-cons (λ (es : List Entry). length es) (track v) (map track vs)
+    ∙ (λ i. here i + sum_stored vertical rows vs some i)
     ∙ sym (sum_by-cons (λ u. keep vertical (column rows u)) v vs)
 
 pub sum_kept : StoredSumToKept

@@ -21,7 +21,8 @@ entries_wide l (suc n) aggs vals a b = (
     val = omega (arith, length-take l vals, suc-mul n l);
   },
   entries_wide l n (drop l aggs) (drop l vals)
-      (omega (arith, length-drop l aggs, suc-mul n l)) (omega (arith, length-drop l vals, suc-mul n l)),
+      (omega (arith, length-drop l aggs, suc-mul n l))
+      (omega (arith, length-drop l vals, suc-mul n l)),
 )
 
 module _ (r : Inside) (flat : AreFlat r) where
@@ -30,7 +31,8 @@ module _ (r : Inside) (flat : AreFlat r) where
 
   flat_full : AreFull r.vertices (rows_of r).rows
   flat_full = All-map (λ row. length row ≡ r.vertices) row_in r.rows.items
-      (λ i d l. let row : FlatRow = get_or r.rows.items i d in length-entries_of r.lanes r.vertices row.aggs.items row.vals.items)
+      (λ i d l. let row : FlatRow = get_or r.rows.items i d in length-entries_of r.lanes r.vertices
+      row.aggs.items row.vals.items)
 
   flat_wide : AreWide r.lanes (rows_of r).rows
   flat_wide = All-map (λ row. All (IsWide r.lanes) row) row_in r.rows.items
@@ -50,6 +52,7 @@ module _ (r : Inside) (flat : AreFlat r) where
 pub entry_wide : (lanes n : ℕ) (rows : List Row) (i v : ℕ) → AreFull n rows → AreWide lanes rows
     → i < length rows → v < n → IsWide lanes (entry_at rows i v)
 entry_wide lanes n rows i v full wide h l =
-    let long : length (get_or rows i []) ≡ n = All-get_or (λ row. length row ≡ n) rows i [] h full in
+    let long : length (get_or rows i [])
+    ≡ n = All-get_or (λ row. length row ≡ n) rows i [] h full in
     All-get_or (IsWide lanes) (get_or rows i []) v no_entry (omega arith)
     (All-get_or (λ row. All (IsWide lanes) row) rows i [] h wide)

@@ -13,23 +13,23 @@ use Rattle.std.proofs.lemmas.Cmp.{ranked}
 use Rattle.std.proofs.lemmas.Bool.Decides.{nat_tests}
 
 -- ---- tests of both
-pub both : (a b : Bool) → T (a && b) → T a × T b
-both true b h = (tt, h)
-both false b h = absurd h
+pub both_hold : (a b : Bool) → T (a && b) → T a × T b
+both_hold true b h = (tt, h)
+both_hold false b h = absurd h
 
-pub join : (a b : Bool) → T a → T b → T (a && b)
-join true b p q = q
-join false b p q = absurd p
+pub and_holds : (a b : Bool) → T a → T b → T (a && b)
+and_holds true b p q = q
+and_holds false b p q = absurd p
 
 -- ---- numbers compared
-pub tied : (q k : ℕ) → q ≡ k → eq_by_cmp nat_cmp q k ≡ true
-tied q k e = ap is_eq (equal q k e)
+pub equal_tied : (q k : ℕ) → q ≡ k → eq_by_cmp nat_cmp q k ≡ true
+equal_tied q k e = ap is_eq (equal q k e)
   where
     equal : (q k : ℕ) → q ≡ k → nat_cmp q k ≡ Equal
     equal q k e = grind (arith, nat_tests)
 
-pub untied : (q k : ℕ) → q ≢ k → eq_by_cmp nat_cmp q k ≡ false
-untied q k n = elim (nat_cmp q k) as (λ r. nat_cmp q k ≡ r → is_eq r ≡ false) [
+pub unequal_untied : (q k : ℕ) → q ≢ k → eq_by_cmp nat_cmp q k ≡ false
+unequal_untied q k n = elim (nat_cmp q k) as (λ r. nat_cmp q k ≡ r → is_eq r ≡ false) [
   | Less ↦ λ _. refl
   | Equal ↦ λ e. absurd (n (finite.nat_cmp-IsAntisymmetric q k e))
   | Greater ↦ λ _. refl
@@ -42,8 +42,8 @@ tied_equal q k e = elim (nat_cmp q k) as (λ r. nat_cmp q k ≡ r → is_eq r �
   | Greater ↦ λ f g. absurd (cc)
 ] refl e
 
-pub under : (a b : ℕ) → T (is_lt (nat_cmp a b)) → a < b
-under a b h = elim (nat_cmp a b) as (λ r. nat_cmp a b ≡ r → T (is_lt r) → a < b) [
+pub is_lt-less : (a b : ℕ) → T (is_lt (nat_cmp a b)) → a < b
+is_lt-less a b h = elim (nat_cmp a b) as (λ r. nat_cmp a b ≡ r → T (is_lt r) → a < b) [
   | Less ↦ λ e t. ranked a b Less (sym e)
   | Equal ↦ λ e t. absurd t
   | Greater ↦ λ e t. absurd t
@@ -55,26 +55,30 @@ pub find_lookup : {X : Type 0} (q : ℕ) (es : List (ℕ × X))
 find_lookup q [] = refl
 find_lookup q (e ∷ es) = ap (λ o. cond (eq_by_cmp nat_cmp q e.0) (Some e.1) o) (find_lookup q es)
 
-below : {X : Type 0} (k : ℕ) (es : List (ℕ × X))
+below_all_keys : {X : Type 0} (k : ℕ) (es : List (ℕ × X))
     → AllByRecursion (λ y. nat_cmp k y ≡ Less) (keys_of es) → T (below_all nat_cmp k es)
-below k [] h = tt
-below k (e ∷ es) h = join (is_lt (nat_cmp k e.0)) (below_all nat_cmp k es) (subst (λ r. T (is_lt r)) (sym h.0) tt) (below k es h.1)
+below_all_keys k [] h = tt
+below_all_keys k (e ∷ es) h = and_holds (is_lt (nat_cmp k e.0)) (below_all nat_cmp k es)
+    (subst (λ r. T (is_lt r)) (sym h.0) tt) (below_all_keys k es h.1)
 
 pub ordered_sorted : {X : Type 0} (es : List (ℕ × X)) → IsStrictlySortedBy nat_cmp (keys_of es)
     → T (is_sorted nat_cmp es)
 unfolding IsStrictlySortedBy
 ordered_sorted [] h = tt
-ordered_sorted (e ∷ es) h = join (below_all nat_cmp e.0 es) (is_sorted nat_cmp es) (below e.0 es h.0) (ordered_sorted es h.1)
+ordered_sorted (e ∷ es) h = and_holds (below_all nat_cmp e.0 es) (is_sorted nat_cmp es)
+    (below_all_keys e.0 es h.0) (ordered_sorted es h.1)
 
 -- a number that all entries are above has none
 pub not_below : {X : Type 0} (k q : ℕ) (ps : List (ℕ × X)) → eq_by_cmp nat_cmp q k ≡ true
     → T (below_all nat_cmp k ps) → find nat_cmp q ps ≡ None
 not_below k q [] e h = refl
 not_below k q (p ∷ ps) e h =
-    let b = both (is_lt (nat_cmp k p.0)) (below_all nat_cmp k ps) h in
-    ap (λ c. cond c (Some p.1) (find nat_cmp q ps)) (apart k q p.0 (tied_equal q k e) b.0) ∙ not_below k q ps e b.1
+    let b = both_hold (is_lt (nat_cmp k p.0)) (below_all nat_cmp k ps) h in
+    ap (λ c. cond c (Some p.1) (find nat_cmp q ps)) (apart k q p.0 (tied_equal q k e) b.0)
+    ∙ not_below k q ps e b.1
   where
     apart : (k q x : ℕ) → q ≡ k → T (is_lt (nat_cmp k x)) → eq_by_cmp nat_cmp q x ≡ false
     apart k q x same h =
         ap (λ y. eq_by_cmp nat_cmp y x) same
-        ∙ (elim (nat_cmp k x) as (λ r. T (is_lt r) → is_eq r ≡ false) [ Less ↦ λ t. refl | Equal ↦ λ t. absurd t | Greater ↦ λ t. absurd t ] h)
+        ∙ (elim (nat_cmp k x) as (λ r. T (is_lt r) → is_eq r ≡ false)
+        [ Less ↦ λ t. refl | Equal ↦ λ t. absurd t | Greater ↦ λ t. absurd t ] h)

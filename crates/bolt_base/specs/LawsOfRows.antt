@@ -30,5 +30,6 @@ StoredHaveLength = (vertical : Bool) (entries : List Entry) → 0 < length entri
 -- the stored entries of n vertices are `kept` together
 abbrev pub StoredSumToKept : Type 0
 StoredSumToKept = (vertical : Bool) (rows : List Row) (n : ℕ) → 0 < length rows
-    → sum_by (λ track. length track) (map (λ v. stored vertical (column rows v)) (range_with_len 0 n))
+    → sum_by (λ track. length track)
+    (map (λ v. stored vertical (column rows v)) (range_with_len 0 n))
     ≡ kept vertical rows n

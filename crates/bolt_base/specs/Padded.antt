@@ -28,12 +28,14 @@ take-replicate (suc n) (suc m) x h = ap (λ xs. x ∷ xs) (take-replicate n m x 
 
 replicate-append : (n m : ℕ) (x : ℤ) → replicate n x ++ replicate m x ≡ replicate (n + m) x
 replicate-append zero m x = ap (λ k. replicate k x) (sym (zero-add m))
-replicate-append (suc n) m x = ap (λ xs. x ∷ xs) (replicate-append n m x) ∙ ap (λ k. replicate k x) (let e : suc (n + m) ≡ suc n + m = omega arith in e)
+replicate-append (suc n) m x = ap (λ xs. x ∷ xs) (replicate-append n m x)
+    ∙ ap (λ k. replicate k x) (let e : suc (n + m) ≡ suc n + m = omega arith in e)
 
 zeros_after : (w : ℕ) → w ≤ 8 → padded (replicate w (pos 0)) ≡ replicate 8 (pos 0)
 zeros_after w h =
     ap (λ n. replicate w (pos 0) ++ replicate (8 - n) (pos 0)) (length-replicate w (pos 0))
-    ∙ replicate-append w (8 - w) (pos 0) ∙ ap (λ k. replicate k (pos 0)) (let e : w + (8 - w) ≡ 8 = omega arith in e)
+    ∙ replicate-append w (8 - w) (pos 0)
+    ∙ ap (λ k. replicate k (pos 0)) (let e : w + (8 - w) ≡ 8 = omega arith in e)
 
 -- eight zeros are padded at any width
 pub zeros_padded : (w : ℕ) → 1 ≤ w → w ≤ 8 → IsPadded w (replicate 8 (pos 0))
@@ -56,7 +58,9 @@ set_padded w word k x l h = record {
       let b = h.long in
       let front : take w (set word k x) ≡ set (take w word) k x = take-set-lt w word k x l in
       let inside : k < length (take w word) = omega (arith, length-take w word) in
-      ap padded front ∙ ap (λ n. set (take w word) k x ++ replicate (8 - n) (pos 0)) (length-set (take w word) k x)
-      ∙ sym (set-append_left (take w word) (replicate (8 - length (take w word)) (pos 0)) k x inside)
+      ap padded front ∙ ap (λ n. set (take w word) k x ++ replicate (8 - n) (pos 0))
+      (length-set (take w word) k x)
+      ∙ sym (set-append_left (take w word) (replicate (8 - length (take w word)) (pos 0)) k x
+      inside)
       ∙ ap (λ xs. set xs k x) h.zeros;
 }

@@ -24,7 +24,8 @@ impl Model for Lanes {
 
     ghost inverse = { λ xs. record { width = length xs; word = padded xs } };
 
-    ghost inverse_ok = { λ a h. let e = length-taken a.width a.word h in λ i. record { width = e i; word = h.zeros i } };
+    ghost inverse_ok = { λ a h. let e = length-taken a.width a.word h in λ i. record
+        { width = e i; word = h.zeros i } };
 }
 
 impl Lanes {

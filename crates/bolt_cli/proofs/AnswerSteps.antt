@@ -1,5 +1,6 @@
 -- How a command's result is its status.
-use Rattle.std.specs.Prelude.{◌≡◌, ◌≢◌, ◌⊎◌, ℕ, ◌+◌, ◌≤◌, List, ◌++◌, [], ◌∷◌, length, take, drop, Option, Some, None, Result, Ok, Err, IfSome, IfOk}
+use Rattle.std.specs.Prelude.{◌≡◌, ◌≢◌, ◌⊎◌, ℕ, ◌+◌, ◌≤◌, List, ◌++◌, [], ◌∷◌, length, take, drop}
+use Rattle.std.specs.Prelude.{Option, Some, None, Result, Ok, Err, IfSome, IfOk}
 use Rattle.std.proofs.Common.{refl, sym, ap, subst, arith, inl, inr}
 use Rattle.bolt_io.specs.Faults.{Rose}
 use Rattle.bolt_io.specs.Told.{Told}
@@ -11,7 +12,8 @@ use Rattle.batch_steps.specs.Course.{Opening, stream_of}
 use Rattle.batch_steps.specs.Ended.{ended_batches}
 use Rattle.batch_steps.specs.Files.{Content}
 use Rattle.command_files.specs.declared.stop.Stop.{Stop}
-use Rattle.command_files.specs.declared.stop.Stop.TheVariants.{ShelfFailed, SinkFailed, Memory, TooLong}
+use Rattle.command_files.specs.declared.stop.Stop.TheVariants.{ShelfFailed, SinkFailed, Memory}
+use Rattle.command_files.specs.declared.stop.Stop.TheVariants.{TooLong}
 use Rattle.command_files.specs.Files.{content, AreFirst, AreRead, MeetsLong}
 use Rattle.command_files.specs.Reads.{Follows, Reads}
 use Rattle.command_files.specs.Replied.{Gives, Replied, Leads}
@@ -19,7 +21,8 @@ use Rattle.command_files.specs.Stops.{ShelfCause, SinkCause, status_of}
 use Rattle.command_files.proofs.ReadSteps.{told_all, told_map}
 use Rattle.batch_run.specs.Ahead.{IsReadStop}
 use Rattle.batch_run.specs.Conducts.{World, Each, Begun, Conducts}
-use Rattle.command_text.specs.Still.{opening, files_before, files_read, still, named, opened_with, IsDecided, IsDecided_by}
+use Rattle.command_text.specs.Still.{opening, files_before, files_read, still, named, opened_with}
+use Rattle.command_text.specs.Still.{IsDecided, IsDecided_by}
 use Rattle.output_text.specs.Words.{wrong_at}
 use Rattle.bolt_cli.specs.Answers.{IsOwn, IsEarly, OfStream, Answers}
 
@@ -29,11 +32,11 @@ is_early SinkFailed = inr (inl refl)
 is_early Memory = inr (inr (inl refl))
 is_early TooLong = inr (inr (inr refl))
 
-beyond : (e : Stop) → 5 ≤ status_of e
-beyond ShelfFailed = omega arith
-beyond SinkFailed = omega arith
-beyond Memory = omega arith
-beyond TooLong = omega arith
+stop_status_least : (e : Stop) → 5 ≤ status_of e
+stop_status_least ShelfFailed = omega arith
+stop_status_least SinkFailed = omega arith
+stop_status_least Memory = omega arith
+stop_status_least TooLong = omega arith
 
 not_decided : (n : ℕ) → 5 ≤ n → IsOwn n → ⊥
 not_decided n h (inl is) = omega (arith, h, is)
@@ -81,7 +84,8 @@ is_too_long SinkFailed is = absurd (omega (arith, is))
 is_too_long Memory is = absurd (omega (arith, is))
 is_too_long TooLong is = refl
 
-is_memory : (e : Stop) (a b c d : ℕ) → ShelfCause a b e → SinkCause c d e → ¬ Rose a b → ¬ Rose c d → (e ≡ TooLong → ⊥) → status_of e ≡ 7
+is_memory : (e : Stop) (a b c d : ℕ) → ShelfCause a b e → SinkCause c d e → ¬ Rose a b → ¬ Rose c d
+    → (e ≡ TooLong → ⊥) → status_of e ≡ 7
 is_memory ShelfFailed a b c d x y first later not = absurd (first x)
 is_memory SinkFailed a b c d x y first later not = absurd (later y)
 is_memory Memory a b c d x y first later not = refl
@@ -99,7 +103,8 @@ unfolding IsDecided
 own_status words n h = own_by (wrong_at words) n h
 
 -- a reading stopped where the status is 5 or 8
-read_stop : (e : Stop) → (status_of e ≡ 5) ⊎ (status_of e ≡ 8) → IsReadStop (let r : Result ℕ Stop = Err e in r)
+read_stop : (e : Stop) → (status_of e ≡ 5) ⊎ (status_of e ≡ 8)
+    → IsReadStop (let r : Result ℕ Stop = Err e in r)
 read_stop ShelfFailed h = inl refl
 read_stop TooLong h = inr refl
 read_stop SinkFailed (inl is) = absurd (omega (arith, is))
@@ -107,12 +112,15 @@ read_stop SinkFailed (inr is) = absurd (omega (arith, is))
 read_stop Memory (inl is) = absurd (omega (arith, is))
 read_stop Memory (inr is) = absurd (omega (arith, is))
 
-late : (n : ℕ) → (n ≡ 5) ⊎ (n ≡ 8) → IsOwn n → ⊥
-late n (inl is) own = omega (arith, own_below n own, is)
-late n (inr is) own = omega (arith, own_below n own, is)
+own_below_stop : (n : ℕ) → (n ≡ 5) ⊎ (n ≡ 8) → IsOwn n → ⊥
+own_below_stop n (inl is) own = omega (arith, own_below n own, is)
+own_below_stop n (inr is) own = omega (arith, own_below n own, is)
 
 -- what holds of each slot of the stream
-OfStream-map : (words : List (List ℕ)) (more : List Slot) (told : Option Told) (P Q : Opening → Content → Slot → Type 0) → ((o : Opening) (c : Content) (s : Slot) → P o c s → Q o c s) → OfStream words more told P → OfStream words more told Q
+OfStream-map : (words : List (List ℕ)) (more : List Slot) (told : Option Told)
+    (P Q : Opening → Content → Slot → Type 0)
+    → ((o : Opening) (c : Content) (s : Slot) → P o c s → Q o c s) → OfStream words more told P
+    → OfStream words more told Q
 OfStream-map words more None P Q step h = tt
 OfStream-map words more (Some t) P Q step h = each (opening words (content t)) h
   where
@@ -120,7 +128,9 @@ OfStream-map words more (Some t) P Q step h = each (opening words (content t)) h
     all o [] h = tt
     all o (s ∷ ss) h = (step o (content t) s h.0, all o ss h.1)
 
-    each : (x : Result Opening Reply) → IfOk x (λ o. Each (P o (content t)) (drop (length (files_before words (content t))) more)) → IfOk x (λ o. Each (Q o (content t)) (drop (length (files_before words (content t))) more))
+    each : (x : Result Opening Reply)
+        → IfOk x (λ o. Each (P o (content t)) (drop (length (files_before words (content t))) more))
+        → IfOk x (λ o. Each (Q o (content t)) (drop (length (files_before words (content t))) more))
     each (Ok o) h = all o (drop (length (files_before words (content t))) more) h
     each (Err refusal) h = tt
 
@@ -132,58 +142,103 @@ module _ (words : List (List ℕ)) (old new : World) where
   Answers-ok s h decided =
       let own : IsOwn s = own_status words s decided in
       let R : Told → Type 0 = λ t. Gives (still words (content t)) old.written new.written (Ok s) in
-      let F : Told → Type 0 = λ t. Follows {T = ℕ} (content t) (files_read words (content t)) IsMade h.reads.more (Ok s) in
+      let F : Told → Type 0 =
+      λ t. Follows {T = ℕ} (content t) (files_read words (content t)) IsMade h.reads.more (Ok s) in
       record {
         known = inl own;
         decided = λ _. decided;
-        part = told_map R (λ t. WrotePart old.written new.written (still words (content t)).text) old.told (λ t g. g.part) h.reply;
-        whole = λ _. told_map R (λ t. Wrote old.written new.written (still words (content t)).text) old.told (λ t g. g.whole) h.reply;
-        own = λ _. told_map R (λ t. s ≡ (still words (content t)).status) old.told (λ t g. g.status) h.reply;
+        part =
+            told_map R (λ t. WrotePart old.written new.written (still words (content t)).text)
+            old.told (λ t g. g.part) h.reply;
+        whole =
+            λ _. told_map R (λ t. Wrote old.written new.written (still words (content t)).text)
+            old.told (λ t g. g.whole) h.reply;
+        own =
+            λ _. told_map R (λ t. s ≡ (still words (content t)).status) old.told (λ t g. g.status)
+            h.reply;
         more = h.reads.more;
         slots = h.reads.told;
         count = h.reads.count;
-        first = told_map F (λ t. AreFirst h.reads.more (files_read words (content t))) old.told (λ t g. g.first) h.reads.follows;
-        all = λ _. told_map F (λ t. length h.reads.more ≡ length (files_read words (content t))) old.told (λ t g. g.all) h.reads.follows;
-        read = λ made. told_map F (λ t. AreRead (content t) h.reads.more (files_read words (content t))) old.told (λ t g. g.done made) h.reads.follows;
+        first =
+            told_map F (λ t. AreFirst h.reads.more (files_read words (content t))) old.told
+            (λ t g. g.first) h.reads.follows;
+        all =
+            λ _. told_map F (λ t. length h.reads.more ≡ length (files_read words (content t)))
+            old.told (λ t g. g.all) h.reads.follows;
+        all_read =
+            λ made. told_map F (λ t. AreRead (content t) h.reads.more
+            (files_read words (content t))) old.told (λ t g. g.done made) h.reads.follows;
         within = h.reads.within;
         full = λ _. h.reads.full;
-        begun = OfStream-map words h.reads.more old.told (λ o c x. Begun o c old.written new.written (Ok s) x) (λ o c x. Leads o.text old.written new.written) (λ o c x b. b.opening) h.begun;
-        kept_up = λ is. absurd (late s is own);
+        begun =
+            OfStream-map words h.reads.more old.told
+            (λ o c x. Begun o c old.written new.written (Ok s) x)
+            (λ o c x. Leads o.text old.written new.written) (λ o c x b. b.opening) h.begun;
+        kept_up = λ is. absurd (own_below_stop s is own);
         too_long = λ is. absurd (omega (arith, own_below s own, is));
-        not_long = λ _. told_map F (λ t. ¬ MeetsLong (content t) (files_read words (content t))) old.told (λ t g. g.not_long) h.reads.follows;
+        not_long =
+            λ _. told_map F (λ t. ¬ MeetsLong (content t) (files_read words (content t))) old.told
+            (λ t g. g.not_long) h.reads.follows;
         shelf_failed = λ is. absurd (omega (arith, own_below s own, is));
         sink_failed = λ is. absurd (omega (arith, own_below s own, is));
         shelf_calm = λ _. h.shelf_cause;
         sink_calm = λ _. h.sink_cause;
-        complete = told_all (λ t. ¬ Rose old.shelf_faults new.shelf_faults → ¬ Rose old.sink_faults new.sink_faults → ¬ MeetsLong (content t) (files_read words (content t)) → IsOwn s ⊎ (s ≡ 7)) old.told (λ t _ _ _. inl own);
+        complete =
+            told_all (λ t. ¬ Rose old.shelf_faults new.shelf_faults
+            → ¬ Rose old.sink_faults new.sink_faults
+            → ¬ MeetsLong (content t) (files_read words (content t)) → IsOwn s ⊎ (s ≡ 7))
+            old.told (λ t _ _ _. inl own);
       }
 
   pub Answers-err : (e : Stop) → Does (Err e) → Answers words old new (status_of e)
   Answers-err e h =
-      let R : Told → Type 0 = λ t. Gives (still words (content t)) old.written new.written (Err e) in
-      let F : Told → Type 0 = λ t. Follows {T = ℕ} (content t) (files_read words (content t)) IsMade h.reads.more (Err e) in
+      let R : Told → Type 0 =
+      λ t. Gives (still words (content t)) old.written new.written (Err e) in
+      let F : Told → Type 0 =
+      λ t. Follows {T = ℕ} (content t) (files_read words (content t)) IsMade h.reads.more (Err e) in
       record {
         known = inr (is_early e);
-        decided = λ d. absurd (not_decided (status_of e) (beyond e) d);
-        part = told_map R (λ t. WrotePart old.written new.written (still words (content t)).text) old.told (λ t g. g.part) h.reply;
-        whole = λ d. absurd (not_decided (status_of e) (beyond e) d);
-        own = λ d. absurd (not_decided (status_of e) (beyond e) d);
+        decided = λ d. absurd (not_decided (status_of e) (stop_status_least e) d);
+        part =
+            told_map R (λ t. WrotePart old.written new.written (still words (content t)).text)
+            old.told (λ t g. g.part) h.reply;
+        whole = λ d. absurd (not_decided (status_of e) (stop_status_least e) d);
+        own = λ d. absurd (not_decided (status_of e) (stop_status_least e) d);
         more = h.reads.more;
         slots = h.reads.told;
         count = h.reads.count;
-        first = told_map F (λ t. AreFirst h.reads.more (files_read words (content t))) old.told (λ t g. g.first) h.reads.follows;
-        all = λ d. absurd (not_decided (status_of e) (beyond e) d);
-        read = λ d. absurd (not_made (status_of e) (beyond e) d);
+        first =
+            told_map F (λ t. AreFirst h.reads.more (files_read words (content t))) old.told
+            (λ t g. g.first) h.reads.follows;
+        all = λ d. absurd (not_decided (status_of e) (stop_status_least e) d);
+        all_read = λ d. absurd (not_made (status_of e) (stop_status_least e) d);
         within = h.reads.within;
-        full = λ d. absurd (not_decided (status_of e) (beyond e) d);
-        begun = OfStream-map words h.reads.more old.told (λ o c x. Begun o c old.written new.written (Err e) x) (λ o c x. Leads o.text old.written new.written) (λ o c x b. b.opening) h.begun;
-        kept_up = λ is. OfStream-map words h.reads.more old.told (λ o c x. Begun o c old.written new.written (Err e) x) (λ o c x. Leads (o.text ++ o.of_batches (ended_batches (take x.taken (c o.stream)))) old.written new.written) (λ o c x b. b.kept_up (read_stop e is)) h.begun;
-        too_long = λ is. told_map F (λ t. MeetsLong (content t) (files_read words (content t))) old.told (λ t g. g.too_long (ap (λ (x : Stop). let r : Result ℕ Stop = Err x in r) (is_too_long e is))) h.reads.follows;
-        not_long = λ d. absurd (not_decided (status_of e) (beyond e) d);
+        full = λ d. absurd (not_decided (status_of e) (stop_status_least e) d);
+        begun =
+            OfStream-map words h.reads.more old.told
+            (λ o c x. Begun o c old.written new.written (Err e) x)
+            (λ o c x. Leads o.text old.written new.written) (λ o c x b. b.opening) h.begun;
+        kept_up =
+            λ is. OfStream-map words h.reads.more old.told
+            (λ o c x. Begun o c old.written new.written (Err e) x)
+            (λ o c x. Leads (o.text ++ o.of_batches (ended_batches (take x.taken (c o.stream))))
+            old.written new.written) (λ o c x b. b.kept_up (read_stop e is)) h.begun;
+        too_long =
+            λ is. told_map F (λ t. MeetsLong (content t) (files_read words (content t))) old.told
+            (λ t g. g.too_long (ap (λ (x : Stop). let r : Result ℕ Stop = Err x in r)
+            (is_too_long e is))) h.reads.follows;
+        not_long = λ d. absurd (not_decided (status_of e) (stop_status_least e) d);
         shelf_failed = shelf_rose e old.shelf_faults new.shelf_faults h.shelf_cause;
         sink_failed = sink_rose e old.sink_faults new.sink_faults h.sink_cause;
         shelf_calm = shelf_stays e old.shelf_faults new.shelf_faults h.shelf_cause;
         sink_calm = sink_stays e old.sink_faults new.sink_faults h.sink_cause;
-        complete = told_map F (λ t. ¬ Rose old.shelf_faults new.shelf_faults → ¬ Rose old.sink_faults new.sink_faults → ¬ MeetsLong (content t) (files_read words (content t)) → IsOwn (status_of e) ⊎ (status_of e ≡ 7)) old.told
-            (λ t g a b c. inr (is_memory e old.shelf_faults new.shelf_faults old.sink_faults new.sink_faults h.shelf_cause h.sink_cause a b (λ is. c (g.too_long (ap (λ (x : Stop). let r : Result ℕ Stop = Err x in r) is))))) h.reads.follows;
+        complete =
+            told_map F (λ t. ¬ Rose old.shelf_faults new.shelf_faults
+            → ¬ Rose old.sink_faults new.sink_faults
+            → ¬ MeetsLong (content t) (files_read words (content t))
+            → IsOwn (status_of e) ⊎ (status_of e ≡ 7)) old.told
+            (λ t g a b c. inr (is_memory e old.shelf_faults new.shelf_faults old.sink_faults
+            new.sink_faults h.shelf_cause h.sink_cause a b
+            (λ is. c (g.too_long (ap (λ (x : Stop). let r : Result ℕ Stop = Err x in r) is)))))
+            h.reads.follows;
       }

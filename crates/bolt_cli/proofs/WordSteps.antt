@@ -1,5 +1,6 @@
 -- What words name.
-use Rattle.std.specs.Prelude.{◌≡◌, ◌⊎◌, ℕ, ◌+◌, List, [], ◌∷◌, Option, Some, None, Result, Ok, Err, IfOk}
+use Rattle.std.specs.Prelude.{◌≡◌, ◌⊎◌, ℕ, ◌+◌, List, [], ◌∷◌, Option, Some, None, Result, Ok, Err}
+use Rattle.std.specs.Prelude.{IfOk}
 use Rattle.std.proofs.Common.{refl, sym, ap, subst}
 use Rattle.rank_rows.specs.Rank.{rank_limits}
 use Rattle.graph_text.specs.GraphText.{graph_of}
@@ -7,7 +8,9 @@ use Rattle.output_text.specs.Words.{word_at, wrong_at}
 use Rattle.batch_steps.specs.Steps.{IsMade, stream_slots}
 use Rattle.batch_steps.specs.Files.{Content}
 use Rattle.batch_steps.specs.Graphs.{graph_file}
-use Rattle.command_text.specs.Still.{words_reply, graph_opening, opening_by, opening, files_by, files_before, named_by, named, opened_by, opened_with, IsDecided_by, IsDecided}
+use Rattle.command_text.specs.Still.{words_reply, graph_opening, opening_by, opening, files_by}
+use Rattle.command_text.specs.Still.{files_before, named_by, named, opened_by, opened_with}
+use Rattle.command_text.specs.Still.{IsDecided_by, IsDecided}
 
 -- of words of which one is wrong or missing: their refusal, and no file
 module _ (words : List (List ℕ)) (at : ℕ) (is : wrong_at words ≡ Some at) where
@@ -29,11 +32,13 @@ module _ (words : List (List ℕ)) (at : ℕ) (is : wrong_at words ≡ Some at) 
 
 -- of right words: the opening of the graph, its file, and then the stream's
 module _ (words : List (List ℕ)) (is : wrong_at words ≡ None) where
-  pub opening-right : (c : Content) → opening words c ≡ graph_opening (word_at words 3) (graph_of rank_limits (c (word_at words 2)))
+  pub opening-right : (c : Content) → opening words c
+      ≡ graph_opening (word_at words 3) (graph_of rank_limits (c (word_at words 2)))
   unfolding opening
   opening-right c = ap (λ (o : Option ℕ). opening_by o (word_at words 2) (word_at words 3) c) is
 
-  pub files_before-right : (c : Content) → files_before words c ≡ graph_file rank_limits (word_at words 2) c ∷ []
+  pub files_before-right : (c : Content)
+      → files_before words c ≡ graph_file rank_limits (word_at words 2) c ∷ []
   unfolding files_before
   files_before-right c = ap (λ (o : Option ℕ). files_by o (word_at words 2) c) is
 
@@ -50,6 +55,7 @@ module _ (words : List (List ℕ)) (is : wrong_at words ≡ None) where
   decided-right s h = subst (λ (o : Option ℕ). IsDecided_by o s) (sym is) h
 
 -- what follows of an answer
-pub ok_map : {A E : Type 0} (r : Result A E) (P Q : A → Type 0) → ((x : A) → P x → Q x) → IfOk r P → IfOk r Q
+pub ok_map : {A E : Type 0} (r : Result A E) (P Q : A → Type 0) → ((x : A) → P x → Q x) → IfOk r P
+    → IfOk r Q
 ok_map (Ok x) P Q step h = step x h
 ok_map (Err e) P Q step h = tt

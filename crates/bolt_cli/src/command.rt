@@ -12,7 +12,7 @@ use crate::rank::run_rank;
 use crate::words::wrong_at;
 use batch_run::refuse;
 use batch_steps::Reply;
-use bolt_base::{Bytes, Gate};
+use bolt_base::Gate;
 use bolt_io::{Shelf, Sink};
 use command_files::Stop;
 use output_text::words_refused;
@@ -26,7 +26,7 @@ fn refuse_words<K: Sink>(alloc: Global, at: u64, out: &mut K) -> Result<u8, Stop
     ensures cause { BlamesSink result (K.faults out.old) (K.faults out.new) }
     ensures writing { IfErr result IsOfWriting }
 {
-    let text = Bytes::from_vec(words_refused(alloc, at)?);
+    let text = words_refused(alloc, at)?;
     refuse(&Reply { text, status: 2 }, out)
 }
 

@@ -8,7 +8,8 @@ use bolt_base::OpenGate;
 use bolt_io::MemSink;
 use std::test::Fail;
 
-// With pieces of one byte there is one call to open, one for each byte, and one at the end: 14 calls for the graph and 15 for the
+// With pieces of one byte there is one call to open, one for each byte, and one at the end: 14
+// calls for the graph and 15 for the
 // stream, of which the last one comes after the batch.
 #[test]
 fn each_call_of_the_shelf_fails(rt: HostRuntime) -> Result<(), Fail> {

@@ -16,7 +16,7 @@ ghost use Rattle.command_runs.specs.Rank.{rank_steps};
 use crate::words::word_at;
 use batch_run::{Opened, finish_opened};
 use batch_steps::{BatchRun, Reply};
-use bolt_base::{Bytes, GraphData, Memory};
+use bolt_base::{GraphData, Memory};
 use bolt_io::{Shelf, Sink};
 use command_files::{Stop, load_graph};
 use command_runs::RankRun;
@@ -37,14 +37,14 @@ fn open_graph(alloc: Global, read: Result<GraphData, BadLine>) -> Result<Opened<
     match read {
         Ok(graph) => {
             let ranked = Ranked::new(alloc, graph)?;
-            let text = Bytes::from_vec(ranked.open_text(alloc)?);
+            let text = ranked.open_text(alloc)?;
             Ok(Opened::Runs {
                 text,
                 run: RankRun::new(ranked),
             })
         }
         Err(bad) => Ok(Opened::Refused(Reply {
-            text: Bytes::from_vec(graph_refused(alloc, &bad)?),
+            text: graph_refused(alloc, &bad)?,
             status: 4,
         })),
     }

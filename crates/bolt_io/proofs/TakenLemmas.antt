@@ -17,12 +17,17 @@ module _ (k : ℕ) (t : Told) where
   pub taken_from-none : taken_from k 0 t ≡ t
   taken_from-none =
       let s = slot_at t.slots k in
-      let same : (let x : Slot = record { name = s.name; taken = s.taken + 0 } in x) ≡ s = (λ i. record { name = s.name; taken = add-zero s.taken i }) in
-      ap (λ (l : List Slot). (let x : Told = record { files = t.files; slots = l } in x)) (ap (λ (x : Slot). slice_set t.slots k x) same ∙ set-get_or t.slots k no_slot)
+      let same : (let x : Slot = record { name = s.name; taken = s.taken + 0 } in x)
+      ≡ s = (λ i. record { name = s.name; taken = add-zero s.taken i }) in
+      ap (λ (l : List Slot). (let x : Told = record { files = t.files; slots = l } in x))
+      (ap (λ (x : Slot). slice_set t.slots k x) same ∙ set-get_or t.slots k no_slot)
 
   module _ (m n : ℕ) (below : k < length t.slots) where
     -- the slot after m bytes more
-    pub slot_at-taken_from : slot_at (taken_from k m t).slots k ≡ record { name = (slot_at t.slots k).name; taken = (slot_at t.slots k).taken + m }
+    pub slot_at-taken_from : slot_at (taken_from k m t).slots k ≡ record {
+      name = (slot_at t.slots k).name;
+      taken = (slot_at t.slots k).taken + m;
+    }
     slot_at-taken_from = get_or-set_same t.slots k _ no_slot below
 
     -- m bytes and then n more are m + n
@@ -31,9 +36,13 @@ module _ (k : ℕ) (t : Told) where
         let s = slot_at t.slots k in
         let x : Slot = record { name = s.name; taken = s.taken + m } in
         let told : List Slot → Told = λ (l : List Slot). record { files = t.files; slots = l } in
-        let put : Slot → List Slot = λ (y : Slot). slice_set (slice_set t.slots k x) k (record { name = y.name; taken = y.taken + n }) in
-        let last : ℕ → List Slot = λ (j : ℕ). slice_set t.slots k (record { name = s.name; taken = j }) in
-        ap told (ap put slot_at-taken_from ∙ set-set t.slots k x (record { name = s.name; taken = s.taken + m + n }) ∙ ap last (add_assoc s.taken m n))
+        let put : Slot → List Slot = λ (y : Slot). slice_set (slice_set t.slots k x) k
+        (record { name = y.name; taken = y.taken + n }) in
+        let last : ℕ → List Slot = λ (j : ℕ). slice_set t.slots k
+        (record { name = s.name; taken = j }) in
+        ap told (ap put slot_at-taken_from
+        ∙ set-set t.slots k x (record { name = s.name; taken = s.taken + m + n })
+        ∙ ap last (add_assoc s.taken m n))
 
     -- what is left after m bytes more
     pub left-taken_from : left (taken_from k m t) k ≡ drop m (left t k)
@@ -53,39 +62,55 @@ module _ (k : ℕ) (t : Told) where
 -- before the first read
 pub Took-none : (old : Option Told) (k : ℕ) → Took old old k []
 Took-none None k = record { told = refl; bytes = tt }
-Took-none (Some t) k = record { told = ap (λ (x : Told). Some x) (sym (taken_from-none k t)); bytes = refl }
+Took-none (Some t) k = record {
+  told = ap (λ (x : Told). Some x) (sym (taken_from-none k t));
+  bytes = refl;
+}
 
 -- one read more
 pub Took-then : (a b c : Option Told) (k n : ℕ) (s buf : List ℕ)
     → IfSome a (λ t. k < length t.slots) → Took a b k s → c ≡ option_map (taken_from k n) b
     → IfSome b (λ t. GivesNext (left t k) n buf) → n ≤ length buf → Took a c k (s ++ take n buf)
-Took-then None b c k n s buf below so_far told gives within = record { told = told ∙ ap (option_map (taken_from k n)) so_far.told; bytes = tt }
+Took-then None b c k n s buf below so_far told gives within = record {
+  told = told ∙ ap (option_map (taken_from k n)) so_far.told;
+  bytes = tt;
+}
 Took-then (Some t) b c k n s buf below so_far told gives within =
     let m = length s in
     let mid = taken_from k m t in
     let P : Option Told → Type 0 = λ o. IfSome o (λ x. GivesNext (left x k) n buf) in
     let now : GivesNext (left mid k) n buf = subst P so_far.told gives in
-    let size : length (s ++ take n buf) ≡ m + n = length-append s (take n buf) ∙ ap (λ (j : ℕ). m + j) (length-take-le n buf within) in
-    let piece : take n buf ≡ take n (drop m (left t k)) = now.bytes ∙ ap (λ (l : List ℕ). take n l) (left-taken_from k t m n below) in
+    let size : length (s ++ take n buf) ≡ m + n = length-append s (take n buf)
+    ∙ ap (λ (j : ℕ). m + j) (length-take-le n buf within) in
+    let piece : take n buf ≡ take n (drop m (left t k)) = now.bytes
+    ∙ ap (λ (l : List ℕ). take n l) (left-taken_from k t m n below) in
     record {
-      told = told ∙ ap (option_map (taken_from k n)) so_far.told ∙ ap (λ (x : Told). Some x) (taken_from-twice k t m n below ∙ ap (λ (j : ℕ). taken_from k j t) (sym size));
-      bytes = ap (λ (l : List ℕ). l ++ take n buf) so_far.bytes ∙ ap (λ (l : List ℕ). take m (left t k) ++ l) piece ∙ sym (take-add m n (left t k)) ∙ ap (λ (j : ℕ). take j (left t k)) (sym size);
+      told = told ∙ ap (option_map (taken_from k n)) so_far.told
+          ∙ ap (λ (x : Told). Some x)
+          (taken_from-twice k t m n below ∙ ap (λ (j : ℕ). taken_from k j t) (sym size));
+      bytes = ap (λ (l : List ℕ). l ++ take n buf) so_far.bytes
+          ∙ ap (λ (l : List ℕ). take m (left t k) ++ l) piece ∙ sym (take-add m n (left t k))
+          ∙ ap (λ (j : ℕ). take j (left t k)) (sym size);
     }
 
 -- a read of nothing, which is the end
 pub Took-end : (a b c : Option Told) (k : ℕ) (s buf : List ℕ) → IfSome a (λ t. k < length t.slots)
     → Took a b k s → c ≡ option_map (taken_from k 0) b → IfSome b (λ t. GivesNext (left t k) 0 buf)
     → Took a c k s × IfSome a (λ t. s ≡ left t k)
-Took-end None b c k s buf below so_far told gives = (record { told = told ∙ ap (option_map (taken_from k 0)) so_far.told; bytes = tt }, tt)
+Took-end None b c k s buf below so_far told gives =
+    (record { told = told ∙ ap (option_map (taken_from k 0)) so_far.told; bytes = tt }, tt)
 Took-end (Some t) b c k s buf below so_far told gives =
     let m = length s in
     let mid = taken_from k m t in
     let P : Option Told → Type 0 = λ o. IfSome o (λ x. GivesNext (left x k) 0 buf) in
     let now : GivesNext (left mid k) 0 buf = subst P so_far.told gives in
     let none : drop m (left t k) ≡ [] = sym (left-taken_from k t m 0 below) ∙ now.at_end refl in
-    let all : take m (left t k) ≡ left t k = sym (append-nil (take m (left t k))) ∙ ap (λ (l : List ℕ). take m (left t k) ++ l) (sym none) ∙ take-append-drop m (left t k) in (
+    let all : take m (left t k) ≡ left t k = sym (append-nil (take m (left t k)))
+    ∙ ap (λ (l : List ℕ). take m (left t k) ++ l) (sym none)
+    ∙ take-append-drop m (left t k) in (
       record {
-        told = told ∙ ap (option_map (taken_from k 0)) so_far.told ∙ ap (λ (x : Told). Some x) (taken_from-none k mid);
+        told = told ∙ ap (option_map (taken_from k 0)) so_far.told
+            ∙ ap (λ (x : Told). Some x) (taken_from-none k mid);
         bytes = so_far.bytes;
       },
       so_far.bytes ∙ all,
@@ -97,7 +122,8 @@ pub Took-le : (a b : Option Told) (k : ℕ) (s : List ℕ) → Took a b k s
 Took-le None b k s so_far = tt
 Took-le (Some t) b k s so_far =
     let l = left t k in
-    let size : length s ≡ min (length s) (length l) = ap length so_far.bytes ∙ length-take (length s) l in
+    let size : length s ≡ min (length s) (length l) = ap length so_far.bytes
+    ∙ length-take (length s) l in
     omega arith
 
 -- where all that was left was taken, the file is taken whole
@@ -107,9 +133,12 @@ pub Took-whole : (a b : Option Told) (k : ℕ) (s : List ℕ) → IfSome a (λ t
 Took-whole None b k s below so_far all = tt
 Took-whole (Some t) b k s below so_far all = λ (within : IsWithinFile t k).
     let m = length s in
-    let size : m ≡ length (file_of t k) - taken_of t k = ap length all ∙ length-drop (taken_of t k) (file_of t k) in
-    let now : taken_of (taken_from k m t) k ≡ taken_of t k + m = taken_of-taken_from k t m 0 below in
-    let same : length (file_of (taken_from k m t) k) ≡ length (file_of t k) = ap length (file_of-taken_from k t m 0 below) in
+    let size : m ≡ length (file_of t k) - taken_of t k = ap length all
+    ∙ length-drop (taken_of t k) (file_of t k) in
+    let now : taken_of (taken_from k m t) k
+    ≡ taken_of t k + m = taken_of-taken_from k t m 0 below in
+    let same : length (file_of (taken_from k m t) k)
+    ≡ length (file_of t k) = ap length (file_of-taken_from k t m 0 below) in
     let whole : IsTakenWhole (taken_from k m t) k = omega arith in
     subst (λ (o : Option Told). IfSome o (λ u. IsTakenWhole u k)) (sym so_far.told) whole
 
@@ -155,15 +184,18 @@ slot_at-taken_from_other k n j t other = get_or-set_other t.slots k j _ no_slot 
 pub IsTakenWhole-same : (t u : Told) (j : ℕ) → u.files ≡ t.files
     → slot_at u.slots j ≡ slot_at t.slots j → IsTakenWhole t j → IsTakenWhole u j
 IsTakenWhole-same t u j files slots whole =
-    let files_at : bytes_of u.files (slot_at u.slots j).name ≡ bytes_of t.files (slot_at t.slots j).name = cc in
+    let files_at : bytes_of u.files (slot_at u.slots j).name
+    ≡ bytes_of t.files (slot_at t.slots j).name = cc in
     let taken : taken_of u j ≡ taken_of t j = cc in
     taken ∙ whole ∙ ap length (sym files_at)
 
 -- a slot that was just opened has nothing taken, and so no more than there is
 pub IsWithinFile-opened : (a b : Option Told) (name : List ℕ) (n : ℕ) → TellsSlots a n
     → b ≡ option_map (opened_at name) a → IfSome b (λ t. IsWithinFile t n)
-IsWithinFile-opened None b name n tells told = subst (λ (o : Option Told). IfSome o (λ t. IsWithinFile t n)) (sym told) tt
+IsWithinFile-opened None b name n tells told = subst
+    (λ (o : Option Told). IfSome o (λ t. IsWithinFile t n)) (sym told) tt
 IsWithinFile-opened (Some t) b name n tells told =
-    let none : taken_of (opened_at name t) n ≡ 0 = subst (λ m. taken_of (opened_at name t) m ≡ 0) tells (taken_of-opened_at name t) in
+    let none : taken_of (opened_at name t) n
+    ≡ 0 = subst (λ m. taken_of (opened_at name t) m ≡ 0) tells (taken_of-opened_at name t) in
     let within : IsWithinFile (opened_at name t) n = omega (arith, none) in
     subst (λ (o : Option Told). IfSome o (λ u. IsWithinFile u n)) (sym told) within

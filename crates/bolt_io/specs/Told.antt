@@ -7,8 +7,7 @@ use Rattle.bolt_io.specs.declared.files.File.{File}
 use Rattle.bolt_io.specs.declared.files.Slot.{Slot}
 
 -- the files by name, of which the first with a name is the one that counts, and the slots in the
--- order in which they
--- were opened
+-- order in which they were opened
 pub record Told : Type 0 where
   pub files : List File
   pub slots : List Slot

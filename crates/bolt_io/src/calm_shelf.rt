@@ -7,7 +7,7 @@ ghost use Rattle.bolt_io.specs.Fakes.{with_file, with_slot, with_taken, read_len
 use crate::fault::{OpenFault, ShelfFault};
 use crate::files::{File, Slot};
 use crate::shelf::Shelf;
-use bolt_base::{Bytes, Items, Memory};
+use bolt_base::{Bytes, Memory};
 use std::alloc::Global;
 use std::marker::Model;
 
@@ -53,8 +53,8 @@ impl CalmShelf {
         ensures err { OnErr result (self.new ≡ self.old) }
     {
         let file = File {
-            name: copied(self.alloc, name.as_bytes())?,
-            bytes: copied(self.alloc, bytes)?,
+            name: Bytes::from_slice(self.alloc, name.as_bytes())?,
+            bytes: Bytes::from_slice(self.alloc, bytes)?,
         };
         self.files.insert(0, file)?;
         Ok(())
@@ -96,7 +96,7 @@ impl Shelf for CalmShelf {
         ensures err { OnErr result (self.new ≡ self.old) }
     {
         let slot = self.slots.len() as u32;
-        let Ok(name) = copied(self.alloc, name.as_bytes()) else {
+        let Ok(name) = Bytes::from_slice(self.alloc, name.as_bytes()) else {
             return Err(OpenFault::Memory);
         };
         match self.slots.push(Slot { name, taken: 0 }) {
@@ -131,17 +131,6 @@ fn find_bytes<'a>(files: &'a [File], name: &[u8]) -> &'a [u8]
         }
     }
     &[]
-}
-
-// A list of these bytes.
-fn copied(alloc: Global, bytes: &[u8]) -> Result<Bytes, Memory>
-    ensures { IfOk result (λ items. items ≡ bytes.now) }
-{
-    let mut items = Items::new(alloc);
-    for byte in bytes {
-        items.push(*byte)?;
-    }
-    Ok(items)
 }
 
 // What is left after the bytes that were taken.

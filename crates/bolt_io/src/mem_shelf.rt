@@ -103,7 +103,8 @@ impl Shelf for MemShelf {
         requires slot { slot < length self.old.shelf.told.slots }
         requires room { 0 < length buf.old }
         ensures fails { IsErr result ↔ IsTrue (next_fails self.old.plan) }
-        ensures failed { OnErr result (self.new ≡ record self.old { plan = with_failed_call self.old.plan }) }
+        ensures failed { OnErr result
+            (self.new ≡ record self.old { plan = with_failed_call self.old.plan }) }
         ensures longest { IfOk result (λ n. n ≡ read_length self.old.shelf slot (length buf.old)) }
         ensures bytes { IfOk result (λ n. GivesNext (left self.old.shelf.told slot) n buf.new) }
         ensures taken { IfOk result (λ n. self.new ≡ record {

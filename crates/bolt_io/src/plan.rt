@@ -29,7 +29,8 @@ impl FaultPlan {
 
     /// Adds a call that is to fail.
     pub fn fail_at(&mut self, call: u64) -> Result<(), Memory>
-        ensures ok { OnOk result (self.new ≡ record self.old { fails = self.old.fails ++ call ∷ [] }) }
+        ensures ok { OnOk result (self.new
+            ≡ record self.old { fails = self.old.fails ++ call ∷ [] }) }
         ensures err { OnErr result (self.new ≡ self.old) }
     {
         self.fails.push(call)

@@ -24,10 +24,12 @@ pub trait Shelf {
         requires { opened self.old < 2 ^ 31 }
         ensures slot { IfOk result (λ slot. slot ≡ opened self.old) }
         ensures one_more { OnOk result (opened self.new ≡ opened self.old + 1) }
-        ensures told { OnOk result (told self.new ≡ option_map (opened_at name.now) (told self.old)) }
+        ensures told { OnOk result (told self.new
+            ≡ option_map (opened_at name.now) (told self.old)) }
         ensures none_more { OnErr result (opened self.new ≡ opened self.old) }
         ensures untouched { OnErr result (told self.new ≡ told self.old) }
-        ensures failed { IsErrOf result OpenFault.Failed → Rose (faults self.old) (faults self.new) }
+        ensures failed { IsErrOf result OpenFault.Failed
+            → Rose (faults self.old) (faults self.new) }
         ensures memory { IsErrOf result OpenFault.Memory → faults self.new ≡ faults self.old }
         ensures calm { OnOk result (faults self.new ≡ faults self.old) }
         ensures later { faults self.old ≤ faults self.new };
@@ -38,8 +40,10 @@ pub trait Shelf {
         requires slot { slot < opened self.old }
         requires room { 0 < length buf.old }
         ensures within { IfOk result (λ n. n ≤ length buf.old) }
-        ensures told { IfOk result (λ n. told self.new ≡ option_map (taken_from slot n) (told self.old)) }
-        ensures bytes { IfOk result (λ n. IfSome (told self.old) (λ t. GivesNext (left t slot) n buf.new)) }
+        ensures told { IfOk result (λ n. told self.new
+            ≡ option_map (taken_from slot n) (told self.old)) }
+        ensures bytes { IfOk result (λ n. IfSome (told self.old)
+            (λ t. GivesNext (left t slot) n buf.new)) }
         ensures untouched { OnErr result (told self.new ≡ told self.old) }
         ensures opened { opened self.new ≡ opened self.old }
         ensures failed { OnErr result (Rose (faults self.old) (faults self.new)) }

@@ -19,9 +19,11 @@ pub trait Sink {
         requires { 0 < length piece.now }
         ensures some { IfOk result (λ n. 1 ≤ n) }
         ensures within { IfOk result (λ n. n ≤ length piece.now) }
-        ensures wrote { IfOk result (λ n. Wrote (written self.old) (written self.new) (take n piece.now)) }
+        ensures wrote { IfOk result (λ n. Wrote (written self.old) (written self.new)
+            (take n piece.now)) }
         ensures untouched { OnErr result (written self.new ≡ written self.old) }
-        ensures failed { IsErrOf result SinkFault.Failed → Rose (faults self.old) (faults self.new) }
+        ensures failed { IsErrOf result SinkFault.Failed
+            → Rose (faults self.old) (faults self.new) }
         ensures memory { IsErrOf result SinkFault.Memory → faults self.new ≡ faults self.old }
         ensures calm { OnOk result (faults self.new ≡ faults self.old) }
         ensures later { faults self.old ≤ faults self.new };
@@ -34,7 +36,8 @@ pub trait Sink {
 pub fn put_all<K: Sink>(sink: &mut K, bytes: &[u8]) -> Result<(), SinkFault>
     ensures all { OnOk result (Wrote (K.written sink.old) (K.written sink.new) bytes.now) }
     ensures part { WrotePart (K.written sink.old) (K.written sink.new) bytes.now }
-    ensures failed { IsErrOf result SinkFault.Failed → Rose (K.faults sink.old) (K.faults sink.new) }
+    ensures failed { IsErrOf result SinkFault.Failed
+        → Rose (K.faults sink.old) (K.faults sink.new) }
     ensures memory { IsErrOf result SinkFault.Memory → K.faults sink.new ≡ K.faults sink.old }
     ensures calm { OnOk result (K.faults sink.new ≡ K.faults sink.old) }
     ensures later { K.faults sink.old ≤ K.faults sink.new }

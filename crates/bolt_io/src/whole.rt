@@ -25,8 +25,10 @@ pub enum ReadFault {
 /// All the bytes that a slot has left. After an error some of them were taken, and are lost.
 pub fn read_whole<S: Shelf>(alloc: Global, shelf: &mut S, slot: u32) -> Result<Vec<u8>, ReadFault>
     requires { slot < S.opened shelf.old }
-    ensures all { IfOk result (λ bytes. IfSome (S.told shelf.old) (λ t. bytes.items ≡ left t slot)) }
-    ensures took { IfOk result (λ bytes. Took (S.told shelf.old) (S.told shelf.new) slot bytes.items) }
+    ensures all { IfOk result
+        (λ bytes. IfSome (S.told shelf.old) (λ t. bytes.items ≡ left t slot)) }
+    ensures took { IfOk result (λ bytes. Took (S.told shelf.old) (S.told shelf.new) slot
+        bytes.items) }
     ensures short { IfOk result (λ bytes. length bytes.items < 2 ^ 40) }
     ensures to_end { OnOk result (IfSome (S.told shelf.old)
         (λ t. IsWithinFile t slot → IfSome (S.told shelf.new) (λ u. IsTakenWhole u slot))) }

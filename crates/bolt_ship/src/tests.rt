@@ -1,4 +1,6 @@
-// Each text is that of a program, which is accepted and printed as it stands.
+// Each text is that of a program, which is accepted, printed as it stands, and run.
+mod rows;
+
 use crate::shipped;
 use range_check::check;
 use std::test::Fail;

@@ -24,7 +24,8 @@ abbrev pub MeetsLong : Content → List Named → Type 0
 MeetsLong c [] = ⊥
 MeetsLong c (f ∷ fs) = IsLong c f ⊎ MeetsLong c fs
 
--- so many bytes were taken of what is read that far: a reader takes blocks, and so at most one past that place
+-- so many bytes were taken of what is read that far: a reader takes blocks, and so at most one past
+-- that place
 abbrev pub IsNear : ℕ → ℕ → Type 0
 IsNear taken far = taken ≤ far + BLOCK_BYTES
 

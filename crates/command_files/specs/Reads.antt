@@ -1,5 +1,6 @@
 -- What a call did with a shelf.
-use Rattle.std.specs.Prelude.{◌≡◌, ℕ, ◌+◌, ◌≤◌, List, ◌++◌, length, Option, Result, IfSome, IfOk, OnOk, IsErrOf}
+use Rattle.std.specs.Prelude.{◌≡◌, ℕ, ◌+◌, ◌≤◌, List, ◌++◌, length, Option, Result, IfSome, IfOk}
+use Rattle.std.specs.Prelude.{OnOk, IsErrOf}
 use Rattle.std.specs.Option.{option_map}
 use Rattle.bolt_io.specs.Told.{Told}
 use Rattle.bolt_io.specs.declared.files.Slot.{Slot}
@@ -11,14 +12,16 @@ use Rattle.command_files.specs.Files.{content, IsNear, MeetsLong, AreFirst, AreR
 
 -- some bytes were taken of a slot, no more than a block past the place to which its bytes are read
 abbrev pub TookTo : (List ℕ → ℕ) → Option Told → Option Told → ℕ → Type 0
-TookTo far old new slot = (n : ℕ) × Advances old new slot n × IfSome old (λ t. IsNear n (far (readable t slot)))
+TookTo far old new slot =
+    (n : ℕ) × Advances old new slot n × IfSome old (λ t. IsNear n (far (readable t slot)))
 
 -- these slots more, and the files and the other slots as they were
 abbrev pub with_slots : List Slot → Told → Told
 with_slots more t = record { files = t.files; slots = t.slots ++ more }
 
 -- how the slots that a call opened follow the list of the files that it is to read
-pub record Follows {T : Type 0} (c : Content) (files : List Named) (Done : T → Type 0) (more : List Slot) (r : Result T Stop) : Type 0 where
+pub record Follows {T : Type 0} (c : Content) (files : List Named) (Done : T → Type 0)
+    (more : List Slot) (r : Result T Stop) : Type 0 where
   -- they are of the first files of the list, in order
   pub first : AreFirst more files
   -- with Ok of all of them, and each was taken to its end where all was to be done
@@ -28,8 +31,10 @@ pub record Follows {T : Type 0} (c : Content) (files : List Named) (Done : T →
   pub too_long : IsErrOf r TooLong → MeetsLong c files
   pub not_long : OnOk r (¬ MeetsLong c files)
 
--- A call that is to read these files opened some slots, and left the files and the slots from before as they were
-pub record Reads {T : Type 0} (files : Content → List Named) (Done : T → Type 0) (most : ℕ) (slots : T → ℕ)
+-- A call that is to read these files opened some slots, and left the files and the slots from
+-- before as they were
+pub record Reads {T : Type 0} (files : Content → List Named) (Done : T → Type 0) (most : ℕ)
+    (slots : T → ℕ)
     (old new : Option Told) (before after : ℕ) (r : Result T Stop) : Type 0 where
   pub more : List Slot
   pub told : new ≡ option_map (with_slots more) old

@@ -14,7 +14,8 @@ pub record Gives (reply : Reply) (old new : Option (List ℕ)) (r : Result ℕ S
   pub status : IfOk r (λ status. status ≡ reply.status)
 
 -- the same where the shelf tells its files, for the reply that follows from their content
-abbrev pub Replied : (Content → Reply) → Option Told → Option (List ℕ) → Option (List ℕ) → Result ℕ Stop → Type 0
+abbrev pub Replied : (Content → Reply) → Option Told → Option (List ℕ) → Option (List ℕ)
+    → Result ℕ Stop → Type 0
 Replied reply told old new r = IfSome told (λ t. Gives (reply (content t)) old new r)
 
 -- some text was written, and nothing that was written before changed

@@ -2,16 +2,24 @@
 use Rattle.std.specs.Prelude.{◌≡◌, ◌≢◌, ℕ, Result, Ok, Err, MatchResult}
 use Rattle.bolt_io.specs.Faults.{Rose}
 use Rattle.bolt_io.specs.declared.fault.OpenFault.{OpenFault}
-use Rattle.bolt_io.specs.declared.fault.OpenFault.TheVariants.{Failed as OpenFailed, Memory as OpenMemory}
+use Rattle.bolt_io.specs.declared.fault.OpenFault.TheVariants.{Failed as OpenFailed}
+use Rattle.bolt_io.specs.declared.fault.OpenFault.TheVariants.{Memory as OpenMemory}
 use Rattle.bolt_io.specs.declared.fault.SinkFault.{SinkFault}
-use Rattle.bolt_io.specs.declared.fault.SinkFault.TheVariants.{Failed as SinkFaultFailed, Memory as SinkMemory}
+use Rattle.bolt_io.specs.declared.fault.SinkFault.TheVariants.{Failed as SinkFaultFailed}
+use Rattle.bolt_io.specs.declared.fault.SinkFault.TheVariants.{Memory as SinkMemory}
 use Rattle.text_lines.specs.declared.feed.FeedError.{FeedError}
-use Rattle.text_lines.specs.declared.feed.FeedError.TheVariants.{Shelf as FeedShelf, Turns as FeedTurns, Memory as FeedMemory}
+use Rattle.text_lines.specs.declared.feed.FeedError.TheVariants.{Shelf as FeedShelf}
+use Rattle.text_lines.specs.declared.feed.FeedError.TheVariants.{Turns as FeedTurns}
+use Rattle.text_lines.specs.declared.feed.FeedError.TheVariants.{Memory as FeedMemory}
 use Rattle.graph_text.specs.declared.bad_line.BadLine.{BadLine}
 use Rattle.graph_text.specs.declared.graph.GraphRefusal.{GraphRefusal}
-use Rattle.graph_text.specs.declared.graph.GraphRefusal.TheVariants.{Line as GraphLine, Shelf as GraphShelf, Turns as GraphTurns, Memory as GraphMemory}
+use Rattle.graph_text.specs.declared.graph.GraphRefusal.TheVariants.{Line as GraphLine}
+use Rattle.graph_text.specs.declared.graph.GraphRefusal.TheVariants.{Shelf as GraphShelf}
+use Rattle.graph_text.specs.declared.graph.GraphRefusal.TheVariants.{Turns as GraphTurns}
+use Rattle.graph_text.specs.declared.graph.GraphRefusal.TheVariants.{Memory as GraphMemory}
 use Rattle.command_files.specs.declared.stop.Stop.{Stop}
-use Rattle.command_files.specs.declared.stop.Stop.TheVariants.{ShelfFailed, SinkFailed, Memory, TooLong}
+use Rattle.command_files.specs.declared.stop.Stop.TheVariants.{ShelfFailed, SinkFailed, Memory}
+use Rattle.command_files.specs.declared.stop.Stop.TheVariants.{TooLong}
 
 -- the shelf's count of faults rose where the shelf is to blame, and else stayed
 abbrev pub ShelfCause : ℕ → ℕ → Stop → Type 0

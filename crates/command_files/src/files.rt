@@ -7,7 +7,7 @@ ghost use Rattle.bolt_base.specs.Graph.{IsBetween, IsGood};
 ghost use Rattle.bolt_io.specs.Told.{left, opened_at};
 ghost use Rattle.text_lines.specs.Feed.{readable};
 ghost use Rattle.graph_text.specs.GraphText.{graph_of};
-ghost use Rattle.graph_text.specs.Refusals.{IsCutShort, graph_far};
+ghost use Rattle.graph_text.specs.Refusals.{IsTooLong, graph_far};
 ghost use Rattle.command_files.specs.Files.{content};
 ghost use Rattle.batch_steps.specs.Graphs.{graph_file};
 ghost use Rattle.command_files.specs.Reads.{TookTo, Reads};
@@ -48,14 +48,14 @@ fn load_slot<S: Shelf>(
     ensures good { IfOk result (λ r. IfOk r (λ g.
         IsBetween limits.now.attr_lo limits.now.attr_hi (pos 0) → IsGood limits.now g)) }
     ensures early { IfOk result (λ r. OnErr r (IfSome (S.told shelf.old)
-        (λ t. ¬ IsCutShort limits.now slot t))) }
+        (λ t. ¬ IsTooLong limits.now slot t))) }
     ensures short { IfOk result (λ r. OnOk r (IfSome (S.told shelf.old)
         (λ t. length (left t slot) < MOST_BYTES))) }
     ensures end { IfOk result (λ r. OnOk r (IfSome (S.told shelf.new) (λ t. left t slot ≡ []))) }
     ensures took { TookTo (graph_far limits.now) (S.told shelf.old) (S.told shelf.new) slot }
     ensures opened { S.opened shelf.new ≡ S.opened shelf.old }
     ensures too_long { IsErrOf result Stop.TooLong
-        → IfSome (S.told shelf.old) (IsCutShort limits.now slot) }
+        → IfSome (S.told shelf.old) (IsTooLong limits.now slot) }
     ensures cause { BlamesShelf result (S.faults shelf.old) (S.faults shelf.new) }
     ensures reading { IfErr result IsOfReading }
 {

@@ -39,14 +39,12 @@ impl BatchRun for RankRun {
     ghost taken = { λ r. r.progress.accepted + r.progress.refused };
 
     fn take(&mut self, alloc: Global, batch: &BatchText) -> Result<Bytes, Memory> {
-        let text = self.progress.take(alloc, batch)?;
-        Ok(Bytes::from_vec(text))
+        self.progress.take(alloc, batch)
     }
 
     fn end(&self, alloc: Global) -> Result<Reply, Memory> {
-        let text = self.progress.end_text(alloc)?;
         Ok(Reply {
-            text: Bytes::from_vec(text),
+            text: self.progress.end_text(alloc)?,
             status: self.progress.status(),
         })
     }

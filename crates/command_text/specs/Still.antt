@@ -1,5 +1,6 @@
 -- What each command line writes and reads.
-use Rattle.std.specs.Prelude.{◌≡◌, ◌⊎◌, ℕ, ◌+◌, List, [], ◌∷◌, ◌++◌, Option, Some, None, Result, Ok, Err}
+use Rattle.std.specs.Prelude.{◌≡◌, ◌⊎◌, ℕ, ◌+◌, List, [], ◌∷◌, ◌++◌, Option, Some, None, Result, Ok}
+use Rattle.std.specs.Prelude.{Err}
 use Rattle.bolt_base.specs.Graph.{Graph}
 use Rattle.rank_rows.specs.Rank.{rank_limits}
 use Rattle.graph_text.specs.declared.bad_line.BadLine.{BadLine}
@@ -63,7 +64,8 @@ named_by None = 2
 unfoldable pub named : List (List ℕ) → ℕ
 named words = named_by (wrong_at words)
 
--- how many of them were opened where the call ended with that status, of those that words and files decide
+-- how many of them were opened where the call ended with that status, of those that words and files
+-- decide
 abbrev pub opened_by : Option ℕ → ℕ → ℕ
 opened_by (Some at) status = 0
 opened_by None status = 1 + stream_slots status
@@ -71,7 +73,8 @@ opened_by None status = 1 + stream_slots status
 unfoldable pub opened_with : List (List ℕ) → ℕ → ℕ
 opened_with words status = opened_by (wrong_at words) status
 
--- those statuses: 2 where a word is wrong, and else that of a run that was made, or 4 where the graph is refused
+-- those statuses: 2 where a word is wrong, and else that of a run that was made, or 4 where the
+-- graph is refused
 abbrev pub IsDecided_by : Option ℕ → ℕ → Type 0
 IsDecided_by (Some at) status = status ≡ 2
 IsDecided_by None status = IsMade status ⊎ (status ≡ 4)

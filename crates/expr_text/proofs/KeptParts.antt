@@ -1,5 +1,7 @@
--- What is known of an expression that is being read: its trees can stand there, and its nodes are counted.
-use Rattle.std.proofs.Common.{◌≡◌, ℕ, ◌+◌, ◌<◌, ◌≤◌, Bool, true, false, cond, List, [], ◌∷◌, length, Option, Some, None, Result, Ok, Err, refl, arith}
+-- What is known of an expression that is being read: its trees can stand there, and its nodes are
+-- counted.
+use Rattle.std.proofs.Common.{◌≡◌, ℕ, ◌+◌, ◌<◌, ◌≤◌, Bool, true, false, cond, List, [], ◌∷◌, length}
+use Rattle.std.proofs.Common.{Option, Some, None, Result, Ok, Err, refl, arith}
 use Rattle.std.specs.Prelude.{nat_lt, codes}
 use Rattle.std.proofs.lemmas.Bool.Decides.{nat_tests}
 use Rattle.vertex_expr.specs.Tree.{Tree, nodes, outdeg, weight}
@@ -8,13 +10,19 @@ use Rattle.expr_text.specs.declared.reading.Factor.{Factor}
 use Rattle.expr_text.specs.declared.reading.Lane.{Lane}
 use Rattle.expr_text.specs.declared.reading.Lane.TheVariants.{Val, Agg, Old}
 use Rattle.expr_text.specs.declared.reading.Place.{Place}
-use Rattle.expr_text.specs.declared.reading.Place.TheVariants.{Whole, Group, MinFirst, MinSecond, MaxFirst, MaxSecond, ClampFirst, ClampSecond, ClampThird, IfFirst, IfSecond, IfThird, IfFourth}
+use Rattle.expr_text.specs.declared.reading.Place.TheVariants.{Whole, Group, MinFirst, MinSecond}
+use Rattle.expr_text.specs.declared.reading.Place.TheVariants.{MaxFirst, MaxSecond, ClampFirst}
+use Rattle.expr_text.specs.declared.reading.Place.TheVariants.{ClampSecond, ClampThird, IfFirst}
+use Rattle.expr_text.specs.declared.reading.Place.TheVariants.{IfSecond, IfThird, IfFourth}
 use Rattle.expr_text.specs.declared.reading.Frame.{Frame}
 use Rattle.expr_text.specs.declared.reading.Due.{Due}
-use Rattle.expr_text.specs.declared.reading.Due.TheVariants.{Operand, Digits, OpenParen, OpenBracket, Index, CloseBracket, Operator}
+use Rattle.expr_text.specs.declared.reading.Due.TheVariants.{Primary, Digits, OpenParen}
+use Rattle.expr_text.specs.declared.reading.Due.TheVariants.{OpenBracket, Index, CloseBracket}
+use Rattle.expr_text.specs.declared.reading.Due.TheVariants.{Operator}
 use Rattle.expr_text.specs.declared.reading.Reading.{Reading}
 use Rattle.vertex_expr.specs.Writable.{Scope, IsPrintable}
-use Rattle.expr_text.specs.Reading.{Meaning, meaning_of, leaf, lane, call, nothing, in_contribute, in_apply, param_of}
+use Rattle.expr_text.specs.Reading.{Meaning, meaning_of, leaf, lane, call, nothing, in_contribute}
+use Rattle.expr_text.specs.Reading.{in_apply, param_of}
 use Rattle.std.specs.List.{position_or_len}
 use Rattle.std.specs.Str.{bytes_eq}
 use Rattle.vertex_expr.specs.declared.expr.Part.{Part}
@@ -31,40 +39,54 @@ MeaningFits s (lane l) = part_is s.part l
 MeaningFits s (call c) = Unit {0}
 MeaningFits s nothing = Unit {0}
 
-pick : (s : Scope) (b : Bool) (x y : Meaning) → MeaningFits s x → MeaningFits s y → MeaningFits s (cond b x y)
-pick s true x y f g = f
-pick s false x y f g = g
+meaning_fits_either : (s : Scope) (b : Bool) (x y : Meaning) → MeaningFits s x → MeaningFits s y
+    → MeaningFits s (cond b x y)
+meaning_fits_either s true x y f g = f
+meaning_fits_either s false x y f g = g
 
-contribute_fits : (s : Scope) (p : Part) (m : Meaning) → s.part ≡ p → (s.part ≡ Contribute → MeaningFits s m) → MeaningFits s (in_contribute p m)
+contribute_fits : (s : Scope) (p : Part) (m : Meaning) → s.part ≡ p
+    → (s.part ≡ Contribute → MeaningFits s m) → MeaningFits s (in_contribute p m)
 contribute_fits s Init m e f = tt
 contribute_fits s Contribute m e f = f e
 contribute_fits s Aggregate m e f = tt
 contribute_fits s Apply m e f = tt
 
-apply_fits : (s : Scope) (p : Part) (m : Meaning) → s.part ≡ p → (s.part ≡ Apply → MeaningFits s m) → MeaningFits s (in_apply p m)
+apply_fits : (s : Scope) (p : Part) (m : Meaning) → s.part ≡ p → (s.part ≡ Apply → MeaningFits s m)
+    → MeaningFits s (in_apply p m)
 apply_fits s Init m e f = tt
 apply_fits s Contribute m e f = tt
 apply_fits s Aggregate m e f = tt
 apply_fits s Apply m e f = f e
 
-param_fits : (s : Scope) (b : Bool) (k : ℕ) → (b ≡ true → k < length s.params) → MeaningFits s (param_of (cond b (Some k) None))
+param_fits : (s : Scope) (b : Bool) (k : ℕ) → (b ≡ true → k < length s.params)
+    → MeaningFits s (param_of (cond b (Some k) None))
 param_fits s true k f = (f refl, refl)
 param_fits s false k f = tt
 
-pub below : (k n : ℕ) → nat_lt k n ≡ true → k < n
-below k n e = grind (arith, nat_tests)
+pub nat_lt_below : (k n : ℕ) → nat_lt k n ≡ true → k < n
+nat_lt_below k n e = grind (arith, nat_tests)
 
 pub meaning_fits : (s : Scope) (w : List ℕ) → MeaningFits s (meaning_of s w)
 unfolding meaning_of
 meaning_fits s w =
-    pick s (bytes_eq w (codes "min")) _ _ tt (pick s (bytes_eq w (codes "max")) _ _ tt (pick s (bytes_eq w (codes "clamp")) _ _ tt (pick s (bytes_eq w (codes "if")) _ _ tt
-    (pick s (bytes_eq w (codes "attr")) _ _ (tt, refl) (pick s (bytes_eq w (codes "id")) _ _ (tt, refl)
-    (pick s (bytes_eq w (codes "val")) _ _ (contribute_fits s s.part (lane Val) refl (λ e. e))
-    (pick s (bytes_eq w (codes "outdeg")) _ _ (contribute_fits s s.part (leaf outdeg) refl (λ e. (e, refl)))
-    (pick s (bytes_eq w (codes "weight")) _ _ (contribute_fits s s.part (leaf weight) refl (λ e. (e, refl)))
-    (pick s (bytes_eq w (codes "agg")) _ _ (apply_fits s s.part (lane Agg) refl (λ e. e))
-    (pick s (bytes_eq w (codes "old")) _ _ (apply_fits s s.part (lane Old) refl (λ e. e))
-    (param_fits s (nat_lt (position_or_len (λ p. bytes_eq p w) s.params) (length s.params)) (position_or_len (λ p. bytes_eq p w) s.params) (λ e. below _ _ e))))))))))))
+    meaning_fits_either s (bytes_eq w (codes "min")) _ _ tt
+    (meaning_fits_either s (bytes_eq w (codes "max")) _ _ tt
+    (meaning_fits_either s (bytes_eq w (codes "clamp")) _ _ tt
+    (meaning_fits_either s (bytes_eq w (codes "if")) _ _ tt
+    (meaning_fits_either s (bytes_eq w (codes "attr")) _ _ (tt, refl)
+    (meaning_fits_either s (bytes_eq w (codes "id")) _ _ (tt, refl)
+    (meaning_fits_either s (bytes_eq w (codes "val")) _ _
+    (contribute_fits s s.part (lane Val) refl (λ e. e))
+    (meaning_fits_either s (bytes_eq w (codes "outdeg")) _ _
+    (contribute_fits s s.part (leaf outdeg) refl (λ e. (e, refl)))
+    (meaning_fits_either s (bytes_eq w (codes "weight")) _ _
+    (contribute_fits s s.part (leaf weight) refl (λ e. (e, refl)))
+    (meaning_fits_either s (bytes_eq w (codes "agg")) _ _
+    (apply_fits s s.part (lane Agg) refl (λ e. e))
+    (meaning_fits_either s (bytes_eq w (codes "old")) _ _
+    (apply_fits s s.part (lane Old) refl (λ e. e))
+    (param_fits s (nat_lt (position_or_len (λ p. bytes_eq p w) s.params) (length s.params))
+    (position_or_len (λ p. bytes_eq p w) s.params) (λ e. nat_lt_below _ _ e))))))))))))
 
 abbrev pub place_nodes : Place → ℕ
 place_nodes Whole = 0
@@ -116,7 +138,7 @@ AllFit s [] = Unit {0}
 AllFit s (f ∷ fs) = FrameFits s f × AllFit s fs
 
 abbrev pub due_nodes : Due → ℕ
-due_nodes Operand = 0
+due_nodes Primary = 0
 due_nodes (Digits t) = nodes t
 due_nodes (OpenParen c) = 1
 due_nodes (OpenBracket l) = 1
@@ -125,7 +147,7 @@ due_nodes (CloseBracket t) = nodes t
 due_nodes (Operator t) = nodes t
 
 abbrev pub DueFits : Scope → Due → Type 0
-DueFits s Operand = Unit {0}
+DueFits s Primary = Unit {0}
 DueFits s (Digits t) = IsPrintable s t
 DueFits s (OpenParen c) = Unit {0}
 DueFits s (OpenBracket l) = part_is s.part l

@@ -1,5 +1,6 @@
 -- The expression of a list of tokens, or the first refusal with its place.
-use Rattle.std.specs.Prelude.{ℕ, nat_le, if◌then◌else◌, List, [], ◌∷◌, Result, Ok, Err, drop, length}
+use Rattle.std.specs.Prelude.{ℕ, nat_le, if◌then◌else◌, List, [], ◌∷◌, Result, Ok, Err, drop}
+use Rattle.std.specs.Prelude.{length}
 use Rattle.text_words.specs.Token.{Token}
 use Rattle.text_words.specs.Tokens.{tokens_from}
 use Rattle.text_words.specs.declared.error.LangError.{LangError}
@@ -8,7 +9,9 @@ use Rattle.vertex_expr.specs.Tree.{Tree, depth}
 use Rattle.vertex_expr.specs.Writable.{Scope}
 use Rattle.expr_text.specs.Reading.{start, step, product_of}
 use Rattle.expr_text.specs.declared.reading.Cause.{Cause}
-use Rattle.expr_text.specs.declared.reading.Cause.TheVariants.{Syntax as IsSyntax, Unknown as IsUnknown, TooBig as IsTooBig}
+use Rattle.expr_text.specs.declared.reading.Cause.TheVariants.{Syntax as IsSyntax}
+use Rattle.expr_text.specs.declared.reading.Cause.TheVariants.{Unknown as IsUnknown}
+use Rattle.expr_text.specs.declared.reading.Cause.TheVariants.{TooBig as IsTooBig}
 use Rattle.expr_text.specs.declared.reading.Due.{Due}
 use Rattle.expr_text.specs.declared.reading.Due.TheVariants.{Operator}
 use Rattle.expr_text.specs.declared.reading.Frame.{Frame}
@@ -21,7 +24,8 @@ refusal IsUnknown at = Unknown at
 refusal IsTooBig at = TooBig at
 
 -- a step that is refused is refused at its token
-abbrev pub goes_on : {A : Type 0} → ℕ → Result Reading Cause → (Reading → Result A LangError) → Result A LangError
+abbrev pub goes_on : {A : Type 0} → ℕ → Result Reading Cause → (Reading → Result A LangError)
+    → Result A LangError
 goes_on at (Ok r) next = next r
 goes_on at (Err c) next = Err (refusal c at)
 
@@ -30,9 +34,9 @@ abbrev pub closed_whole : Frame → List Frame → Due → ℕ → Result Tree L
 closed_whole f [] (Operator t) end = Ok (product_of f.sum t)
 closed_whole f _ _ end = Err (Syntax end)
 
-abbrev pub read : Scope → ℕ → Reading → List (Token × ℕ) → Result Tree LangError
-read s end r [] = closed_whole r.top r.below r.due end
-read s end r (k ∷ ks) = goes_on k.1 (step s r k.0) (λ q. read s end q ks)
+abbrev pub read_tokens : Scope → ℕ → Reading → List (Token × ℕ) → Result Tree LangError
+read_tokens s end r [] = closed_whole r.top r.below r.due end
+read_tokens s end r (k ∷ ks) = goes_on k.1 (step s r k.0) (λ q. read_tokens s end q ks)
 
 abbrev pub first_place : ℕ → List (Token × ℕ) → ℕ
 first_place end [] = end
@@ -45,7 +49,7 @@ shallow at (Err e) = Err e
 
 -- the expression that these tokens are, on a line that ends at a place
 unfoldable pub expression : Scope → ℕ → List (Token × ℕ) → Result Tree LangError
-expression s end ks = shallow (first_place end ks) (read s end start ks)
+expression s end ks = shallow (first_place end ks) (read_tokens s end start ks)
 
 -- the expression that stands in a line from a place on
 unfoldable pub expression_at : Scope → List ℕ → ℕ → Result Tree LangError

@@ -13,7 +13,8 @@ use Rattle.expr_text.specs.Expressions.{expression_at}
 abbrev pub rest_tokens : List ℕ → ℕ → List Token
 rest_tokens line from = map (λ p. p.0) (tokens_from 0 from (drop from line))
 
--- the grammar spells the tree by these tokens, with at most 32 parentheses open at once, and it has at most 256 nodes and is at most 32 deep
+-- the grammar spells the tree by these tokens, with at most 32 parentheses open at once, and it has
+-- at most 256 nodes and is at most 32 deep
 pub record IsExpression (s : Scope) (t : Tree) (ks : List Token) : Type 0 where
   pub spelled : Spells s 32 sums t ks
   pub few : nodes t ≤ 256
@@ -21,8 +22,12 @@ pub record IsExpression (s : Scope) (t : Tree) (ks : List Token) : Type 0 where
 
 -- an expression is read exactly where the grammar spells it
 abbrev pub FollowsGrammar : Type 0
-FollowsGrammar = (s : Scope) (line : List ℕ) (from : ℕ) (t : Tree) → (expression_at s line from ≡ Ok t) ↔ IsExpression s t (rest_tokens line from)
+FollowsGrammar =
+    (s : Scope) (line : List ℕ) (from : ℕ) (t : Tree)
+    → (expression_at s line from ≡ Ok t) ↔ IsExpression s t (rest_tokens line from)
 
 -- the canonical text of a tree that a text can have, at the end of a line, is read as that tree
 abbrev pub ReadsBack : Type 0
-ReadsBack = (s : Scope) (t : Tree) (line : List ℕ) (from : ℕ) → s.lanes ≤ 8 → AreNames s.params → IsTextTree s t → drop from line ≡ text_of s.params t → expression_at s line from ≡ Ok t
+ReadsBack =
+    (s : Scope) (t : Tree) (line : List ℕ) (from : ℕ) → s.lanes ≤ 8 → AreNames s.params
+    → IsTextTree s t → drop from line ≡ text_of s.params t → expression_at s line from ≡ Ok t

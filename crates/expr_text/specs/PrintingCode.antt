@@ -1,5 +1,6 @@
 use Rattle.std.specs.Prelude.{ℕ, Bool, true, false, List, [], ◌<◌}
-use Rattle.vertex_expr.specs.Tree.{Tree, param, plus, minus, times, over, least, greatest, clamp, choose, Level, sums, products, operands}
+use Rattle.vertex_expr.specs.Tree.{Tree, param, plus, minus, times, over, least, greatest, clamp}
+use Rattle.vertex_expr.specs.Tree.{choose, Level, sums, products, operands}
 use Rattle.expr_text.specs.declared.printing.Level.{Level as CodeLevel}
 use Rattle.expr_text.specs.declared.printing.Level.TheVariants.{Sums, Products, Operands}
 

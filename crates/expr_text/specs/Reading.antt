@@ -1,7 +1,10 @@
 -- How an expression is read, a token at a time.
-use Rattle.std.specs.Prelude.{ℕ, pos, neg_ℤ, ◌+◌, ◌^◌, ◌==◌, nat_lt, nat_le, Bool, false, if◌then◌else◌, List, [], ◌∷◌, length, Option, Some, None, Result, Ok, Err, codes, position}
+use Rattle.std.specs.Prelude.{ℕ, pos, neg_ℤ, ◌+◌, ◌^◌, ◌==◌, nat_lt, nat_le, Bool, false}
+use Rattle.std.specs.Prelude.{if◌then◌else◌, List, [], ◌∷◌, length, Option, Some, None, Result, Ok}
+use Rattle.std.specs.Prelude.{Err, codes, position}
 use Rattle.std.specs.Str.{bytes_eq}
-use Rattle.vertex_expr.specs.Tree.{Tree, literal, param, val, outdeg, weight, attr, id, agg, old, plus, minus, times, over, least, greatest, clamp, choose}
+use Rattle.vertex_expr.specs.Tree.{Tree, literal, param, val, outdeg, weight, attr, id, agg, old}
+use Rattle.vertex_expr.specs.Tree.{plus, minus, times, over, least, greatest, clamp, choose}
 use Rattle.vertex_expr.specs.declared.expr.Compare.{Compare}
 use Rattle.vertex_expr.specs.declared.expr.Compare.TheVariants.{Less, AtMost, Equal}
 use Rattle.vertex_expr.specs.Writable.{Scope}
@@ -19,12 +22,17 @@ use Rattle.expr_text.specs.declared.reading.Lane.TheVariants.{Val, Agg, Old}
 use Rattle.expr_text.specs.declared.reading.Call.{Call}
 use Rattle.expr_text.specs.declared.reading.Call.TheVariants.{Min, Max, Clamp, If}
 use Rattle.expr_text.specs.declared.reading.Place.{Place}
-use Rattle.expr_text.specs.declared.reading.Place.TheVariants.{Whole, Group, MinFirst, MinSecond, MaxFirst, MaxSecond, ClampFirst, ClampSecond, ClampThird, IfFirst, IfSecond, IfThird, IfFourth}
+use Rattle.expr_text.specs.declared.reading.Place.TheVariants.{Whole, Group, MinFirst, MinSecond}
+use Rattle.expr_text.specs.declared.reading.Place.TheVariants.{MaxFirst, MaxSecond, ClampFirst}
+use Rattle.expr_text.specs.declared.reading.Place.TheVariants.{ClampSecond, ClampThird, IfFirst}
+use Rattle.expr_text.specs.declared.reading.Place.TheVariants.{IfSecond, IfThird, IfFourth}
 use Rattle.expr_text.specs.declared.reading.End.{End}
 use Rattle.expr_text.specs.declared.reading.End.TheVariants.{Comma, Compare as Compare', Close}
 use Rattle.expr_text.specs.declared.reading.Frame.{Frame}
 use Rattle.expr_text.specs.declared.reading.Due.{Due}
-use Rattle.expr_text.specs.declared.reading.Due.TheVariants.{Operand, Digits, OpenParen, OpenBracket, Index, CloseBracket, Operator}
+use Rattle.expr_text.specs.declared.reading.Due.TheVariants.{Primary, Digits, OpenParen}
+use Rattle.expr_text.specs.declared.reading.Due.TheVariants.{OpenBracket, Index, CloseBracket}
+use Rattle.expr_text.specs.declared.reading.Due.TheVariants.{Operator}
 use Rattle.expr_text.specs.declared.reading.Reading.{Reading}
 
 infixl 10 ◌>>=◌
@@ -93,7 +101,7 @@ fresh p = record { place = p; sum = None; product = None }
 
 -- what is read at the beginning
 abbrev pub start : Reading
-start = record { nodes = 0; top = fresh Whole; below = []; due = Operand }
+start = record { nodes = 0; top = fresh Whole; below = []; due = Primary }
 
 -- one node more
 unfoldable pub counted : Reading → Result Reading Cause
@@ -101,11 +109,14 @@ counted r = if nat_lt r.nodes 256 then Ok (record r { nodes = r.nodes + 1 }) els
 
 -- an operand was read
 abbrev pub taken : Reading → Tree → Reading
-taken r t = record r { top = record r.top { product = None }; due = Operator (factor_of r.top.product t) }
+taken r t =
+    record r { top = record r.top { product = None }; due = Operator (factor_of r.top.product t) }
 
 -- a parenthesis opens
 unfoldable pub opened : Reading → Place → Result Reading Cause
-opened r p = if nat_lt (length r.below) 32 then Ok (record r { below = r.top ∷ r.below; top = fresh p; due = Operand }) else Err TooBig
+opened r p =
+    if nat_lt (length r.below) 32 then Ok
+    (record r { below = r.top ∷ r.below; top = fresh p; due = Primary }) else Err TooBig
 
 abbrev pub first_of : Call → Place
 first_of Min = MinFirst
@@ -139,7 +150,7 @@ closed _ t = None
 
 abbrev pub moved : Reading → Option Place → Result Reading Cause
 moved r None = Err Syntax
-moved r (Some p) = Ok (record r { top = fresh p; due = Operand })
+moved r (Some p) = Ok (record r { top = fresh p; due = Primary })
 
 abbrev pub popped : Reading → List Frame → Tree → Result Reading Cause
 popped r [] t = Err Syntax
@@ -158,10 +169,13 @@ named r nothing = Err Unknown
 
 -- a number where an operand is due
 abbrev pub at_operand_number : Reading → ℕ → Result Reading Cause
-at_operand_number r n = counted r >>= λ q. if nat_lt n (2 ^ 63) then Ok (taken q (literal (pos n))) else Err TooBig
+at_operand_number r n =
+    counted r >>= λ q. if nat_lt n (2 ^ 63) then Ok (taken q (literal (pos n))) else Err TooBig
 
 abbrev pub at_operand_negative : Reading → ℕ → Result Reading Cause
-at_operand_negative r n = counted r >>= λ q. if nat_le n (2 ^ 63) then Ok (record q { due = Digits (literal (neg_ℤ (pos n))) }) else Err TooBig
+at_operand_negative r n =
+    counted r >>= λ q. if nat_le n (2 ^ 63) then Ok
+    (record q { due = Digits (literal (neg_ℤ (pos n))) }) else Err TooBig
 
 -- a token where an operand is due
 abbrev pub at_operand : Scope → Reading → Token → Result Reading Cause
@@ -173,10 +187,15 @@ at_operand s r at_most = Err Syntax
 at_operand s r (mark b) = if b == 40 then opened r Group else Err Syntax
 
 abbrev pub times_next : Reading → Factor → Tree → Result Reading Cause
-times_next r f t = counted r >>= λ q. Ok (record q { top = record q.top { product = Some (f, t) }; due = Operand })
+times_next r f t =
+    counted r >>= λ q. Ok (record q { top = record q.top { product = Some (f, t) }; due = Primary })
 
 abbrev pub plus_next : Reading → Sign → Tree → Result Reading Cause
-plus_next r s t = counted r >>= λ q. Ok (record q { top = record q.top { sum = Some (s, product_of q.top.sum t) }; due = Operand })
+plus_next r s t =
+    counted r >>= λ q. Ok (record q {
+      top = record q.top { sum = Some (s, product_of q.top.sum t) };
+      due = Primary;
+    })
 
 abbrev pub ended_by : Reading → End → Tree → Result Reading Cause
 ended_by r Comma t = moved r (after_comma r.top.place t)
@@ -211,12 +230,13 @@ abbrev pub at_mark : ℕ → Token → Result Reading Cause → Result Reading C
 at_mark m k next = if is_mark m k then next else Err Syntax
 
 abbrev pub at_index : Scope → Reading → Lane → Token → Result Reading Cause
-at_index s r l (number k) = if nat_lt k s.lanes then Ok (record r { due = CloseBracket (lane_of l k) }) else Err TooBig
+at_index s r l (number k) =
+    if nat_lt k s.lanes then Ok (record r { due = CloseBracket (lane_of l k) }) else Err TooBig
 at_index s r l _ = Err Syntax
 
 -- what the next token does where this is due
 abbrev pub due_step : Scope → Reading → Due → Token → Result Reading Cause
-due_step s r Operand k = at_operand s r k
+due_step s r Primary k = at_operand s r k
 due_step s r (Digits t) k = Ok (taken r t)
 due_step s r (OpenParen c) k = at_mark 40 k (opened r (first_of c))
 due_step s r (OpenBracket l) k = at_mark 91 k (Ok (record r { due = Index l }))
@@ -225,4 +245,4 @@ due_step s r (CloseBracket t) k = at_mark 93 k (Ok (taken r t))
 due_step s r (Operator t) k = at_operator r t k
 
 unfoldable pub step : Scope → Reading → Token → Result Reading Cause
-step s r k = due_step s (record r { due = Operand }) r.due k
+step s r k = due_step s (record r { due = Primary }) r.due k

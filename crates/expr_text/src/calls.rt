@@ -1,7 +1,9 @@
 // What a parenthesis, a comma and a comparison do to the expressions that are being read.
 ghost use Rattle.std.specs.Prelude.{◌≡◌, IfOk};
 ghost use Rattle.expr_text.specs.Gives.{Gives};
-ghost use Rattle.expr_text.specs.Reading.{first_of as first_place, after_comma as comma_place, after_compare as compare_place, closed as closed_of, moved as moved_of, shut as shut_of, ended as ended_of};
+ghost use Rattle.expr_text.specs.Reading.{first_of as first_place, after_comma as comma_place};
+ghost use Rattle.expr_text.specs.Reading.{after_compare as compare_place, closed as closed_of};
+ghost use Rattle.expr_text.specs.Reading.{moved as moved_of, shut as shut_of, ended as ended_of};
 
 use crate::frames::{fresh, product_of, taken};
 use crate::reading::{Call, Cause, Due, End, Fault, Frame, Place, Reading};
@@ -75,7 +77,7 @@ fn moved(reading: Reading, place: Option<Place>) -> Result<Reading, Fault>
             nodes,
             top: fresh(place),
             below,
-            due: Due::Operand,
+            due: Due::Primary,
         }),
     }
 }

@@ -6,7 +6,8 @@ ghost use Rattle.vertex_expr.specs.Node.{tree_of};
 ghost use Rattle.vertex_expr.specs.Writable.{IsTextTree};
 ghost use Rattle.expr_text.specs.Scoped.{scope_of};
 ghost use Rattle.expr_text.specs.Reading.{start as start_of};
-ghost use Rattle.expr_text.specs.Expressions.{read as read_of, expression_at, closed_whole, refusal as refusal_of};
+ghost use Rattle.expr_text.specs.Expressions.{read_tokens as read_tokens_of, expression_at};
+ghost use Rattle.expr_text.specs.Expressions.{closed_whole, refusal as refusal_of};
 
 use crate::frames::product_of;
 use crate::reading::{Cause, Due, Fault, Frame, Place, Reading};
@@ -28,7 +29,7 @@ fn start(alloc: Global) -> Reading
             product: None,
         },
         below: Stack::new(alloc),
-        due: Due::Operand,
+        due: Due::Primary,
     }
 }
 
@@ -68,11 +69,12 @@ fn finished(alloc: Global, reading: Reading, end: usize) -> Result<Operand, Lang
     Ok(product_of(alloc, sum, last)?)
 }
 
-fn read(alloc: Global, scope: &Scope, line: &[u8], from: usize) -> Result<Operand, LangError>
+fn read_tokens(alloc: Global, scope: &Scope, line: &[u8], from: usize) -> Result<Operand, LangError>
     requires few { length scope.now.params.now ≤ 64 }
     requires within { from ≤ length line.now }
     requires short { length line.now < 2 ^ 32 }
-    ensures { Says (λ t. t) result (read_of (scope_of scope.now) (length line.now) start_of (tokens_from 0 from (drop from line.now))) }
+    ensures { Says (λ t. t) result (read_tokens_of (scope_of scope.now) (length line.now) start_of
+        (tokens_from 0 from (drop from line.now))) }
 {
     let mut reading = start(alloc);
     let mut at = from;
@@ -88,7 +90,8 @@ fn read(alloc: Global, scope: &Scope, line: &[u8], from: usize) -> Result<Operan
 }
 
 /// The expression that stands in a line from a place on, and takes the line to its end.
-#[tactic(auto, unfolding(crate::specs::Expressions::expression, crate::specs::Expressions::expression_at))]
+#[tactic(auto, unfolding(crate::specs::Expressions::expression,
+    crate::specs::Expressions::expression_at))]
 pub fn read_expression(
     alloc: Global,
     scope: &Scope,
@@ -105,7 +108,7 @@ pub fn read_expression(
         None => line.len(),
         Some(found) => found.at,
     };
-    let tree = read(alloc, scope, line, from)?;
+    let tree = read_tokens(alloc, scope, line, from)?;
     if is_shallow(tree.get(), 32) {
         Ok(tree.into_expr())
     } else {

@@ -1,7 +1,11 @@
 // What a step does to the expressions that are being read.
 ghost use Rattle.std.specs.Prelude.{◌≡◌, IfOk};
 ghost use Rattle.expr_text.specs.Gives.{Gives};
-ghost use Rattle.expr_text.specs.Reading.{counted as counted_of, taken as taken_of, opened as opened_of, fresh as fresh_frame, times_next as times_of, plus_next as plus_of, product_of as product_tree, signed as signed_of, scaled as scaled_of};
+ghost use Rattle.expr_text.specs.Reading.{counted as counted_of, taken as taken_of};
+ghost use Rattle.expr_text.specs.Reading.{opened as opened_of, fresh as fresh_frame};
+ghost use Rattle.expr_text.specs.Reading.{times_next as times_of, plus_next as plus_of};
+ghost use Rattle.expr_text.specs.Reading.{product_of as product_tree, signed as signed_of};
+ghost use Rattle.expr_text.specs.Reading.{scaled as scaled_of};
 
 use crate::reading::{Cause, Due, Factor, Fault, Frame, Place, Reading, Sign};
 use bolt_base::Memory;
@@ -116,7 +120,7 @@ pub fn opened(reading: Reading, place: Place) -> Result<Reading, Fault>
             nodes,
             top: fresh(place),
             below,
-            due: Due::Operand,
+            due: Due::Primary,
         })
     } else {
         Err(Fault::Refused(Cause::TooBig))
@@ -160,7 +164,7 @@ pub fn times_next(reading: Reading, factor: Factor, left: Operand) -> Result<Rea
         nodes,
         top,
         below,
-        due: Due::Operand,
+        due: Due::Primary,
     })
 }
 
@@ -194,6 +198,6 @@ pub fn plus_next(
         nodes,
         top,
         below,
-        due: Due::Operand,
+        due: Due::Primary,
     })
 }

@@ -1,4 +1,5 @@
-//! The expressions of a program text: how they are read, a token at a time, and their canonical text.
+//! The expressions of a program text: how they are read, a token at a time, and their canonical
+//! text.
 #![tactic(auto)]
 
 mod calls;
@@ -15,5 +16,5 @@ mod steps;
 pub use expression::read_expression;
 pub use laws::{follows_grammar, reads_back};
 pub use names::is_taken;
-pub use printing::{append, append_expression, append_number, append_whole};
+pub use printing::append_expression;
 pub use scope::Scope;

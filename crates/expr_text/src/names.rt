@@ -2,7 +2,8 @@
 ghost use Rattle.std.specs.Prelude.{◌≡◌};
 ghost use Rattle.std.specs.List.{list_any};
 ghost use Rattle.std.specs.Str.{bytes_eq};
-ghost use Rattle.vertex_expr.specs.Names.{is_reserved as is_reserved_word, is_taken as is_taken_word};
+ghost use Rattle.vertex_expr.specs.Names.{is_reserved as is_reserved_word};
+ghost use Rattle.vertex_expr.specs.Names.{is_taken as is_taken_word};
 ghost use Rattle.vertex_expr.specs.Writable.{names_of};
 
 use vertex_expr::NamedParam;

@@ -1,6 +1,5 @@
 // The canonical text of an expression.
 ghost use Rattle.std.specs.Prelude.{◌≡◌, ◌++◌, length, codes, decimal, OnOk};
-ghost use Rattle.std.specs.Fmt.{signed_decimal};
 ghost use Rattle.vertex_expr.specs.Node.{tree_of};
 ghost use Rattle.vertex_expr.specs.Tree.{level as level_of};
 ghost use Rattle.vertex_expr.specs.Writable.{names_of};
@@ -8,18 +7,7 @@ ghost use Rattle.expr_text.specs.Printing.{text_of, in_parens, is_looser, compar
 ghost use Rattle.expr_text.specs.PrintingCode.{level_seen, if_marked, AreBelow};
 
 use bolt_base::{Bytes, Memory};
-use itoa::Buffer;
 use vertex_expr::{Compare, Expr, NamedParam};
-
-/// Appends bytes.
-pub fn append(out: &mut Bytes, bytes: &[u8]) -> Result<(), Memory>
-    ensures { OnOk result (out.new ≡ out.old ++ bytes.now) }
-{
-    for b in bytes {
-        out.push(*b)?;
-    }
-    Ok(())
-}
 
 #[derive(Clone, Copy, Debug)]
 enum Level {
@@ -49,30 +37,12 @@ fn is_looser_than(a: Level, b: Level) -> bool
     }
 }
 
-/// Appends a number.
-pub fn append_number(out: &mut Bytes, number: u32) -> Result<(), Memory>
-    ensures { OnOk result (out.new ≡ out.old ++ decimal number) }
-{
-    let mut buffer = Buffer::new();
-    append(out, buffer.format(number).as_bytes())?;
-    Ok(())
-}
-
-/// Appends a whole number.
-pub fn append_whole(out: &mut Bytes, number: i64) -> Result<(), Memory>
-    ensures { OnOk result (out.new ≡ out.old ++ signed_decimal number) }
-{
-    let mut buffer = Buffer::new();
-    append(out, buffer.format(number).as_bytes())?;
-    Ok(())
-}
-
 fn append_lane(out: &mut Bytes, name: &[u8], k: u32) -> Result<(), Memory>
     ensures { OnOk result (out.new ≡ out.old ++ (name.now ++ decimal k ++ codes "]")) }
 {
-    append(out, name)?;
-    append_number(out, k)?;
-    append(out, b"]")?;
+    out.extend_from_slice(name)?;
+    out.push_decimal(u64::from(k))?;
+    out.extend_from_slice(b"]")?;
     Ok(())
 }
 
@@ -90,7 +60,7 @@ fn append_paren(out: &mut Bytes, marked: bool, byte: &[u8]) -> Result<(), Memory
     ensures { OnOk result (out.new ≡ out.old ++ if_marked marked byte.now) }
 {
     if marked {
-        append(out, byte)?;
+        out.extend_from_slice(byte)?;
     }
     Ok(())
 }
@@ -104,7 +74,8 @@ fn append_marked(
     out: &mut Bytes,
 ) -> Result<(), Memory>
     requires { AreBelow (length params.now) (tree_of expr.now) }
-    ensures { OnOk result (out.new ≡ out.old ++ in_parens marked (text_of (names_of params.now) (tree_of expr.now))) }
+    ensures { OnOk result (out.new ≡ out.old
+        ++ in_parens marked (text_of (names_of params.now) (tree_of expr.now))) }
 {
     append_paren(out, marked, b"(")?;
     append_expression(params, expr, out)?;
@@ -121,9 +92,10 @@ fn append_behind(
     out: &mut Bytes,
 ) -> Result<(), Memory>
     requires { AreBelow (length params.now) (tree_of expr.now) }
-    ensures { OnOk result (out.new ≡ out.old ++ (before.now ++ text_of (names_of params.now) (tree_of expr.now))) }
+    ensures { OnOk result (out.new ≡ out.old
+        ++ (before.now ++ text_of (names_of params.now) (tree_of expr.now))) }
 {
-    append(out, before)?;
+    out.extend_from_slice(before)?;
     append_expression(params, expr, out)?;
     Ok(())
 }
@@ -135,13 +107,13 @@ pub fn append_expression(params: &[NamedParam], expr: &Expr, out: &mut Bytes) ->
     ensures { OnOk result (out.new ≡ out.old ++ text_of (names_of params.now) (tree_of expr.now)) }
 {
     match expr {
-        Expr::Literal(n) => append_whole(out, *n),
-        Expr::Param(k) => append(out, params[*k as usize].name.as_slice()),
+        Expr::Literal(n) => out.push_signed(*n),
+        Expr::Param(k) => out.extend_from_slice(params[*k as usize].name.as_slice()),
         Expr::Val(k) => append_lane(out, b"val[", *k),
-        Expr::Outdeg => append(out, b"outdeg"),
-        Expr::Weight => append(out, b"weight"),
-        Expr::Attr => append(out, b"attr"),
-        Expr::Id => append(out, b"id"),
+        Expr::Outdeg => out.extend_from_slice(b"outdeg"),
+        Expr::Weight => out.extend_from_slice(b"weight"),
+        Expr::Attr => out.extend_from_slice(b"attr"),
+        Expr::Id => out.extend_from_slice(b"id"),
         Expr::Agg(k) => append_lane(out, b"agg[", *k),
         Expr::Old(k) => append_lane(out, b"old[", *k),
         Expr::Plus(a, b) => {
@@ -151,7 +123,7 @@ pub fn append_expression(params: &[NamedParam], expr: &Expr, out: &mut Bytes) ->
                 is_looser_than(own_level(a.get()), Level::Sums),
                 out,
             )?;
-            append(out, b" + ")?;
+            out.extend_from_slice(b" + ")?;
             append_marked(
                 params,
                 b.get(),
@@ -167,7 +139,7 @@ pub fn append_expression(params: &[NamedParam], expr: &Expr, out: &mut Bytes) ->
                 is_looser_than(own_level(a.get()), Level::Sums),
                 out,
             )?;
-            append(out, b" - ")?;
+            out.extend_from_slice(b" - ")?;
             append_marked(
                 params,
                 b.get(),
@@ -183,7 +155,7 @@ pub fn append_expression(params: &[NamedParam], expr: &Expr, out: &mut Bytes) ->
                 is_looser_than(own_level(a.get()), Level::Products),
                 out,
             )?;
-            append(out, b" * ")?;
+            out.extend_from_slice(b" * ")?;
             append_marked(
                 params,
                 b.get(),
@@ -199,7 +171,7 @@ pub fn append_expression(params: &[NamedParam], expr: &Expr, out: &mut Bytes) ->
                 is_looser_than(own_level(a.get()), Level::Products),
                 out,
             )?;
-            append(out, b" / ")?;
+            out.extend_from_slice(b" / ")?;
             append_marked(
                 params,
                 b.get(),
@@ -211,20 +183,20 @@ pub fn append_expression(params: &[NamedParam], expr: &Expr, out: &mut Bytes) ->
         Expr::Min(a, b) => {
             append_behind(b"min(", params, a.get(), out)?;
             append_behind(b", ", params, b.get(), out)?;
-            append(out, b")")?;
+            out.extend_from_slice(b")")?;
             Ok(())
         }
         Expr::Max(a, b) => {
             append_behind(b"max(", params, a.get(), out)?;
             append_behind(b", ", params, b.get(), out)?;
-            append(out, b")")?;
+            out.extend_from_slice(b")")?;
             Ok(())
         }
         Expr::Clamp(x, a, b) => {
             append_behind(b"clamp(", params, x.get(), out)?;
             append_behind(b", ", params, a.get(), out)?;
             append_behind(b", ", params, b.get(), out)?;
-            append(out, b")")?;
+            out.extend_from_slice(b")")?;
             Ok(())
         }
         Expr::If(c, a, b, x, y) => {
@@ -232,7 +204,7 @@ pub fn append_expression(params: &[NamedParam], expr: &Expr, out: &mut Bytes) ->
             append_behind(compare_bytes(*c), params, b.get(), out)?;
             append_behind(b", ", params, x.get(), out)?;
             append_behind(b", ", params, y.get(), out)?;
-            append(out, b")")?;
+            out.extend_from_slice(b")")?;
             Ok(())
         }
     }

@@ -94,7 +94,8 @@ pub struct Frame {
 /// What is due.
 #[derive(Drop)]
 pub enum Due {
-    Operand,
+    /// A literal, a name, a call or an expression in parentheses.
+    Primary,
     /// The digits of a negative literal.
     Digits(Operand),
     OpenParen(Call),

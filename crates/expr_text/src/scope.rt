@@ -2,7 +2,9 @@
 ghost use Rattle.std.specs.Prelude.{◌≡◌, ◌≤◌, length, position};
 ghost use Rattle.std.specs.Str.{bytes_eq};
 ghost use Rattle.vertex_expr.specs.Writable.{names_of};
-ghost use Rattle.expr_text.specs.Reading.{meaning_of as meaning_in, in_contribute as contribute_meaning, in_apply as apply_meaning};
+ghost use Rattle.expr_text.specs.Reading.{meaning_of as meaning_in};
+ghost use Rattle.expr_text.specs.Reading.{in_contribute as contribute_meaning};
+ghost use Rattle.expr_text.specs.Reading.{in_apply as apply_meaning};
 ghost use Rattle.expr_text.specs.Scoped.{scope_of, means};
 
 use crate::reading::{Call, Lane};

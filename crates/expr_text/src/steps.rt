@@ -3,7 +3,10 @@ ghost use Rattle.std.specs.Prelude.{◌≡◌, ◌≤◌, length};
 ghost use Rattle.text_words.specs.Seen.{seen};
 ghost use Rattle.expr_text.specs.Gives.{Gives};
 ghost use Rattle.expr_text.specs.Scoped.{scope_of, means};
-ghost use Rattle.expr_text.specs.Reading.{step as step_of, named as named_of, at_operand as operand_step, at_operand_number, at_operand_negative, at_operator as operator_step, at_index as index_step, is_mark as is_mark_of};
+ghost use Rattle.expr_text.specs.Reading.{step as step_of, named as named_of};
+ghost use Rattle.expr_text.specs.Reading.{at_operand as operand_step, at_operand_number};
+ghost use Rattle.expr_text.specs.Reading.{at_operand_negative, at_operator as operator_step};
+ghost use Rattle.expr_text.specs.Reading.{at_index as index_step, is_mark as is_mark_of};
 
 use crate::calls::{ended, first_of};
 use crate::frames::{counted, opened, plus_next, taken, times_next};
@@ -214,14 +217,14 @@ pub fn step(alloc: Global, scope: &Scope, reading: Reading, token: &Token) -> Re
         due,
     } = reading;
     match due {
-        Due::Operand => at_operand(
+        Due::Primary => at_operand(
             alloc,
             scope,
             Reading {
                 nodes,
                 top,
                 below,
-                due: Due::Operand,
+                due: Due::Primary,
             },
             token,
         ),
@@ -231,7 +234,7 @@ pub fn step(alloc: Global, scope: &Scope, reading: Reading, token: &Token) -> Re
                 nodes,
                 top,
                 below,
-                due: Due::Operand,
+                due: Due::Primary,
             },
             operand,
         )?),
@@ -242,7 +245,7 @@ pub fn step(alloc: Global, scope: &Scope, reading: Reading, token: &Token) -> Re
                         nodes,
                         top,
                         below,
-                        due: Due::Operand,
+                        due: Due::Primary,
                     },
                     first_of(call),
                 )
@@ -269,7 +272,7 @@ pub fn step(alloc: Global, scope: &Scope, reading: Reading, token: &Token) -> Re
                 nodes,
                 top,
                 below,
-                due: Due::Operand,
+                due: Due::Primary,
             },
             lane,
             token,
@@ -282,7 +285,7 @@ pub fn step(alloc: Global, scope: &Scope, reading: Reading, token: &Token) -> Re
                         nodes,
                         top,
                         below,
-                        due: Due::Operand,
+                        due: Due::Primary,
                     },
                     operand,
                 )?)
@@ -296,7 +299,7 @@ pub fn step(alloc: Global, scope: &Scope, reading: Reading, token: &Token) -> Re
                 nodes,
                 top,
                 below,
-                due: Due::Operand,
+                due: Due::Primary,
             },
             last,
             token,

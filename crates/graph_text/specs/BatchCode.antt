@@ -19,19 +19,23 @@ batches_ahead told feed = option_map (batches_of (feed.lines + 1)) (ahead told f
 
 -- those that a `commit` with its LF ends in the first `most` bytes that the feed takes
 abbrev pub batches_within : ℕ → Option Told → Feed → Option (List BatchText)
-batches_within most told feed = option_map (ended_batches_of (feed.lines + 1)) (ended_within most told feed)
+batches_within most told feed =
+    option_map (ended_batches_of (feed.lines + 1)) (ended_within most told feed)
 
 -- no batch ends in the first `most` bytes that a feed takes
 abbrev pub NoBatchEnds : ℕ → Feed → Told → Type 0
-NoBatchEnds most feed t = ended_batches_of (feed.lines + 1) (seen_ended_lines (rest_within most t feed)) ≡ []
+NoBatchEnds most feed t =
+    ended_batches_of (feed.lines + 1) (seen_ended_lines (rest_within most t feed)) ≡ []
 
 -- of the batches that ended in the first `most` bytes this was the first, unless none had
 abbrev pub IsFirstEnded : BatchText → ℕ → Option Told → Option Told → Feed → Feed → Type 0
 IsFirstEnded b most old new before after =
     (batches_within most old before ≡ option_map (λ t. []) old)
-    ⊎ (batches_within most old before ≡ option_map (λ more. b ∷ more) (batches_within most new after))
+    ⊎ (batches_within most old before
+    ≡ option_map (λ more. b ∷ more) (batches_within most new after))
 
--- the next batch isn't to be had: none ends in the bytes that are taken at most, and the slot may have more
+-- the next batch isn't to be had: none ends in the bytes that are taken at most, and the slot may
+-- have more
 pub record IsBatchStuck (feed : Feed) (t : Told) : Type 0 where
   pub limit : MeetsLimit feed t
   pub none : NoBatchEnds MOST_BYTES feed t

@@ -18,4 +18,11 @@ draft_of c = record {
 
 -- a draft after a line that names vertices up to this one
 abbrev pub named_in : GraphDraft → ℕ → GraphDraft
-named_in c v = record { begun = true; counted = c.counted; named = max c.named (v + 1); attrs = c.attrs; edges = c.edges }
+named_in c v =
+    record {
+      begun = true;
+      counted = c.counted;
+      named = max c.named (v + 1);
+      attrs = c.attrs;
+      edges = c.edges;
+    }

@@ -13,7 +13,8 @@ pub record IsSound (l : Limits) (d : Draft) : Type 0 where
   pub named : d.named ≤ bound l d
   pub attrs : (v : ℕ) (a : ℤ) → d.attr v ≡ Some a → IsBetween l.attr_lo l.attr_hi a
   pub few_edges : length (edges (edges_alone d.weights)) ≤ l.edges
-  pub weights : All (λ e. IsBetween l.weight_lo l.weight_hi e.weight) (edges (edges_alone d.weights))
+  pub weights : All (λ e. IsBetween l.weight_lo l.weight_hi e.weight)
+      (edges (edges_alone d.weights))
   pub ends : All (λ e. (e.src < d.named) × (e.dst < d.named)) (edges (edges_alone d.weights))
   pub out_degrees : (u : ℕ) → outdeg (edges_alone d.weights) u ≤ l.degree
   pub in_degrees : (v : ℕ) → indeg (edges_alone d.weights) v ≤ l.degree

@@ -1,5 +1,6 @@
 -- How the edges of a graph that is being read are found by their ends, and counted.
-use Rattle.std.specs.Prelude.{◌≡◌, ℕ, zero, suc, ◌==◌, Bool, false, ◌||◌, if◌then◌else◌, List, [], ◌∷◌, map, take, filter, length, is_some, slice_index_or}
+use Rattle.std.specs.Prelude.{◌≡◌, ℕ, zero, suc, ◌==◌, Bool, false, ◌||◌, if◌then◌else◌, List, []}
+use Rattle.std.specs.Prelude.{◌∷◌, map, take, filter, length, is_some, slice_index_or}
 use Rattle.std.specs.List.{list_any}
 use Rattle.std.specs.Ordering.{nat_cmp}
 use Rattle.std.specs.BTreeSet.{contains}
@@ -26,16 +27,16 @@ abbrev pub has : Successors → ℕ → Bool
 has r v = list_any (λ u. u == v) (take r.count r.near) || contains nat_cmp r.far v
 
 -- what the row of a vertex tells, or `none` where it has no row
-abbrev pub told : {X : Type 0} → (Successors → X) → X → List Successors → ℕ → X
-told f none [] u = none
-told f none (r ∷ rows) zero = f r
-told f none (r ∷ rows) (suc u) = told f none rows u
+abbrev pub row_value : {X : Type 0} → (Successors → X) → X → List Successors → ℕ → X
+row_value f none [] u = none
+row_value f none (r ∷ rows) zero = f r
+row_value f none (r ∷ rows) (suc u) = row_value f none rows u
 
 abbrev pub has_at : List Successors → ℕ → ℕ → Bool
-has_at rows u v = told (λ r. has r v) false rows u
+has_at rows u v = row_value (λ r. has r v) false rows u
 
 abbrev pub count_at : List Successors → ℕ → ℕ
-count_at rows u = told (λ r. r.count) 0 rows u
+count_at rows u = row_value (λ r. r.count) 0 rows u
 
 -- the rows hold just the ends of the edges, and the edges out of and into each vertex are counted
 pub record IsIndexed (es : List Edge) (rows : List Successors) (in_degrees : List ℕ) : Type 0 where

@@ -1,5 +1,6 @@
 -- The printed forms of graphs and of batches.
-use Rattle.std.specs.Prelude.{ℕ, ℤ, pos, if◌then◌else◌, List, [], ◌∷◌, ◌++◌, length, codes, decimal, slice_index_or}
+use Rattle.std.specs.Prelude.{ℕ, ℤ, pos, if◌then◌else◌, List, [], ◌∷◌, ◌++◌, length, codes, decimal}
+use Rattle.std.specs.Prelude.{slice_index_or}
 use Rattle.std.specs.Fmt.{signed_decimal}
 use Rattle.std.specs.Ordering.{int_eq}
 use Rattle.std.specs.List.{flat_map, range_with_len}
@@ -24,7 +25,9 @@ count_text n = two_words (codes "vertices") (decimal n)
 
 -- `attr U A`, of an attribute that isn't 0
 unfoldable pub attr_text : List ℤ → ℕ → List ℕ
-attr_text attrs u = if int_eq (slice_index_or attrs u (pos 0)) (pos 0) then [] else three_words (codes "attr") (decimal u) (signed_decimal (slice_index_or attrs u (pos 0)))
+attr_text attrs u =
+    if int_eq (slice_index_or attrs u (pos 0)) (pos 0) then [] else three_words (codes "attr")
+    (decimal u) (signed_decimal (slice_index_or attrs u (pos 0)))
 
 -- `U V W`
 unfoldable pub edge_text : Edge → List ℕ
@@ -32,7 +35,9 @@ edge_text e = three_words (decimal e.src) (decimal e.dst) (signed_decimal e.weig
 
 -- a graph, its attributes rising by vertex and its edges by source and then by destination
 abbrev pub graph_text : Graph → List ℕ
-graph_text g = count_text (length g.attrs) ++ flat_map (attr_text g.attrs) (range_with_len 0 (length g.attrs)) ++ flat_map edge_text (edges g)
+graph_text g =
+    count_text (length g.attrs) ++ flat_map (attr_text g.attrs) (range_with_len 0 (length g.attrs))
+    ++ flat_map edge_text (edges g)
 
 -- `+ U V W`, `- U V` and `v U A`
 unfoldable pub edit_text : Edit → List ℕ

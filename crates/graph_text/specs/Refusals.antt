@@ -1,12 +1,15 @@
 -- Why a text gave no graph, and how far it was read.
-use Rattle.std.specs.Prelude.{◌≡◌, ℕ, ◌+◌, ◌<◌, ◌≤◌, List, [], length, take, Option, Some, None, Result, Ok, Err, IfSome, ⊤}
+use Rattle.std.specs.Prelude.{◌≡◌, ℕ, ◌+◌, ◌<◌, ◌≤◌, List, [], length, take, Option, Some, None}
+use Rattle.std.specs.Prelude.{Result, Ok, Err, IfSome, ⊤}
 use Rattle.bolt_base.specs.declared.limits.Limits.{Limits}
 use Rattle.bolt_base.specs.declared.limits.LineCause.{LineCause}
 use Rattle.bolt_base.specs.Graph.{Graph}
 use Rattle.bolt_io.specs.Told.{Told, left}
 use Rattle.bolt_io.specs.declared.whole.TheConstants.{MOST_BYTES}
 use Rattle.text_lines.specs.declared.feed.FeedError.{FeedError}
-use Rattle.text_lines.specs.declared.feed.FeedError.TheVariants.{Shelf as FeedShelf, Turns as FeedTurns, Memory as FeedMemory}
+use Rattle.text_lines.specs.declared.feed.FeedError.TheVariants.{Shelf as FeedShelf}
+use Rattle.text_lines.specs.declared.feed.FeedError.TheVariants.{Turns as FeedTurns}
+use Rattle.text_lines.specs.declared.feed.FeedError.TheVariants.{Memory as FeedMemory}
 use Rattle.text_lines.specs.declared.line_feed.TheConstants.{BLOCK_BYTES}
 use Rattle.text_lines.specs.Lines.{seen_ended_lines, lines_len}
 use Rattle.text_lines.specs.Feed.{readable}
@@ -49,7 +52,7 @@ IfMoreWanted P (Turns taken) = P
 IfMoreWanted P Memory = ⊤
 
 -- a slot has as many bytes as are taken at most, or more, and no line that ends in them is bad
-pub record IsCutShort (l : Limits) (slot : ℕ) (t : Told) : Type 0 where
+pub record IsTooLong (l : Limits) (slot : ℕ) (t : Told) : Type 0 where
   pub long : MOST_BYTES ≤ length (left t slot)
   pub good : EndedLinesAreGood l (readable t slot)
 
@@ -61,18 +64,24 @@ read_far_by (Err bad) text = lines_len bad.line text
 abbrev pub graph_far : Limits → List ℕ → ℕ
 graph_far l text = read_far_by (graph_of l text) text
 
--- how many bytes of a slot were taken for its graph: all; no fewer than up to the end of the bad line, where the text isn't cut
--- short before; some, of which no line that ends in them is bad; as many as are taken at most; or, where memory was wanting, not
+-- how many bytes of a slot were taken for its graph: all; no fewer than up to the end of the bad
+-- line, where the text isn't cut
+-- short before; some, of which no line that ends in them is bad; as many as are taken at most; or,
+-- where memory was wanting, not
 -- so many without a line that ends in them
 abbrev pub ReadsAsFar : Limits → ℕ → ℕ → Result Graph GraphRefusal → Told → Type 0
 ReadsAsFar l slot taken (Ok graph) t = (taken ≡ length (left t slot)) × (taken < MOST_BYTES)
-ReadsAsFar l slot taken (Err (Line number cause)) t = (lines_len number (readable t slot) ≤ taken) × (¬ IsCutShort l slot t)
-ReadsAsFar l slot taken (Err (Shelf fault)) t = EndedLinesAreGood l (take taken (left t slot)) × (taken < MOST_BYTES)
-ReadsAsFar l slot taken (Err (Turns n)) t = IsCutShort l slot t
-ReadsAsFar l slot taken (Err Memory) t = taken ≡ MOST_BYTES → ¬ (seen_ended_lines (readable t slot) ≡ [])
+ReadsAsFar l slot taken (Err (Line number cause)) t =
+    (lines_len number (readable t slot) ≤ taken) × (¬ IsTooLong l slot t)
+ReadsAsFar l slot taken (Err (Shelf fault)) t =
+    EndedLinesAreGood l (take taken (left t slot)) × (taken < MOST_BYTES)
+ReadsAsFar l slot taken (Err (Turns n)) t = IsTooLong l slot t
+ReadsAsFar l slot taken (Err Memory) t =
+    taken ≡ MOST_BYTES → ¬ (seen_ended_lines (readable t slot) ≡ [])
 
 -- that many bytes were taken of a slot for its graph, and nothing else changed on the shelf
-pub record ReadsGraph {A : Type 0} (told : A → Option Told) (opened faults : A → ℕ) (old new : A) (l : Limits) (slot : ℕ)
+pub record ReadsGraph {A : Type 0} (told : A → Option Told) (opened faults : A → ℕ) (old new : A)
+    (l : Limits) (slot : ℕ)
     (result : Result Graph GraphRefusal) : Type 0 where
   pub taken : ℕ
   pub reads : ReadsSlot told opened faults old new slot 0 taken (stopped_by result)

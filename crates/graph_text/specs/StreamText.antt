@@ -1,5 +1,7 @@
 -- The batches of a text.
-use Rattle.std.specs.Prelude.{ℕ, ℤ, pos, ◌+◌, Bool, true, false, nat_lt, if◌then◌else◌, List, [], ◌∷◌, map, length, take, slice_get, Option, Some, None, unwrap_or, codes}
+use Rattle.std.specs.Prelude.{ℕ, ℤ, pos, ◌+◌, Bool, true, false, nat_lt, if◌then◌else◌, List, []}
+use Rattle.std.specs.Prelude.{◌∷◌, map, length, take, slice_get, Option, Some, None, unwrap_or}
+use Rattle.std.specs.Prelude.{codes}
 use Rattle.std.specs.List.{prefix_len, take_while, slice_split}
 use Rattle.std.specs.Str.{bytes_eq}
 use Rattle.bolt_base.specs.declared.edge.Edit.{Edit}
@@ -7,15 +9,17 @@ use Rattle.bolt_base.specs.declared.edge.Edit.TheVariants.{Add, Cut, Attr}
 use Rattle.bolt_base.specs.declared.limits.LineCause.{LineCause}
 use Rattle.bolt_base.specs.declared.limits.LineCause.TheVariants.{Syntax, Size, Unfinished}
 use Rattle.text_lines.specs.Lines.{seen_lines}
-use Rattle.text_lines.specs.Words.{words}
+use Rattle.lexical.specs.Words.{words}
 use Rattle.text_lines.specs.Numbers.{vertex_word, whole_word}
 use Rattle.graph_text.specs.declared.bad_line.BadLine.{BadLine}
 use Rattle.graph_text.specs.declared.stream_lines.StreamLine.{StreamLine}
-use Rattle.graph_text.specs.declared.stream_lines.StreamLine.TheVariants.{Empty, Edit as EditLine, Commit, Unknown}
+use Rattle.graph_text.specs.declared.stream_lines.StreamLine.TheVariants.{Empty, Edit as EditLine}
+use Rattle.graph_text.specs.declared.stream_lines.StreamLine.TheVariants.{Commit, Unknown}
 use Rattle.graph_text.specs.declared.batch_text.BatchText.{BatchText}
 use Rattle.graph_text.specs.declared.batch_reader.TheConstants.{MOST_EDITS}
 
--- the forms of a line: `+ U V` or `+ U V W`, whose weight is 1 where it is left out, `- U V`, `v U A`, and `commit`
+-- the forms of a line: `+ U V` or `+ U V W`, whose weight is 1 where it is left out, `- U V`, `v U
+-- A`, and `commit`
 abbrev pub add_line : Option ℕ → Option ℕ → Option ℤ → StreamLine
 add_line None v w = Unknown
 add_line (Some u) None w = Unknown
@@ -37,12 +41,16 @@ one_word word = if bytes_eq word (codes "commit") then Commit else Unknown
 
 unfoldable pub three_words : List ℕ → List ℕ → List ℕ → StreamLine
 three_words sign second third =
-    if bytes_eq sign (codes "+") then add_line (vertex_word second) (vertex_word third) (Some (pos 1))
+    if bytes_eq sign (codes "+") then add_line (vertex_word second) (vertex_word third)
+    (Some (pos 1))
     else (if bytes_eq sign (codes "-") then cut_line (vertex_word second) (vertex_word third)
-    else (if bytes_eq sign (codes "v") then attr_line (vertex_word second) (whole_word third) else Unknown))
+    else (if bytes_eq sign (codes "v") then attr_line (vertex_word second) (whole_word third) else
+    Unknown))
 
 unfoldable pub four_words : List ℕ → List ℕ → List ℕ → List ℕ → StreamLine
-four_words sign second third fourth = if bytes_eq sign (codes "+") then add_line (vertex_word second) (vertex_word third) (whole_word fourth) else Unknown
+four_words sign second third fourth =
+    if bytes_eq sign (codes "+") then add_line (vertex_word second) (vertex_word third)
+    (whole_word fourth) else Unknown
 
 abbrev pub form_of : List (List ℕ) → StreamLine
 form_of [] = Empty
@@ -102,21 +110,27 @@ bad_at number why = Some (record { line = number; cause = why })
 -- the first unknown line
 abbrev pub first_unknown : ℕ → List StreamLine → Option BadLine
 first_unknown n lines =
-    if nat_lt (length (known_lines lines)) (length lines) then bad_at (n + length (known_lines lines)) Syntax else None
+    if nat_lt (length (known_lines lines)) (length lines) then bad_at
+    (n + length (known_lines lines)) Syntax else None
 
 abbrev pub too_many_or : Option ℕ → Option BadLine → Option BadLine
 too_many_or None unknown = unknown
 too_many_or (Some number) unknown = bad_at number Size
 
--- the bad line of a batch: the edit after the 1,000,000th before the first unknown line, or else that line
+-- the bad line of a batch: the edit after the 1,000,000th before the first unknown line, or else
+-- that line
 abbrev pub bad_line : ℕ → List StreamLine → Option BadLine
-bad_line n lines = too_many_or (slice_get (edit_numbers n (known_lines lines)) MOST_EDITS) (first_unknown n lines)
+bad_line n lines =
+    too_many_or (slice_get (edit_numbers n (known_lines lines)) MOST_EDITS) (first_unknown n lines)
 
 -- the number of the first line that isn't empty, if there is one
 abbrev pub first_line : ℕ → List StreamLine → Option ℕ
-first_line n lines = if nat_lt (prefix_len is_empty lines) (length lines) then Some (n + prefix_len is_empty lines) else None
+first_line n lines =
+    if nat_lt (prefix_len is_empty lines) (length lines) then Some (n + prefix_len is_empty lines)
+    else None
 
--- the batch of the lines before a `commit`: its first line is the first that isn't empty, or the `commit`, and its edits are those
+-- the batch of the lines before a `commit`: its first line is the first that isn't empty, or the
+-- `commit`, and its edits are those
 -- before its bad line
 abbrev pub batch_of : ℕ → List StreamLine → BatchText
 batch_of n lines = record {
@@ -129,14 +143,17 @@ batch_of n lines = record {
 -- lines behind the last `commit` that aren't all empty are one more batch, which has no end
 abbrev pub unfinished : Option ℕ → List BatchText
 unfinished None = []
-unfinished (Some first) = record { first_line = first; edits = []; lines = []; bad = bad_at first Unfinished } ∷ []
+unfinished (Some first) =
+    record { first_line = first; edits = []; lines = []; bad = bad_at first Unfinished } ∷ []
 
--- the batches of the parts of a stream: a `commit` ends each part but the last one, of which `last` makes a batch or none, by the
+-- the batches of the parts of a stream: a `commit` ends each part but the last one, of which `last`
+-- makes a batch or none, by the
 -- number of its first line that isn't empty
 abbrev pub batches_by : (Option ℕ → List BatchText) → ℕ → List (List StreamLine) → List BatchText
 batches_by last n [] = []
 batches_by last n (part ∷ []) = last (first_line n part)
-batches_by last n (part ∷ next ∷ parts) = batch_of n part ∷ batches_by last (n + length part + 1) (next ∷ parts)
+batches_by last n (part ∷ next ∷ parts) =
+    batch_of n part ∷ batches_by last (n + length part + 1) (next ∷ parts)
 
 -- the lines of a stream, split at each `commit`
 abbrev pub parts_of : List (Option (List ℕ)) → List (List StreamLine)

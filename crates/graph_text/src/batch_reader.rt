@@ -1,5 +1,7 @@
 // The batch reader.
-ghost use Rattle.std.specs.Prelude.{◌≡◌, ◌+◌, ◌-◌, ◌<◌, ◌≤◌, ℕ, [], ◌∷◌, is_some, Some, None, Err, Option, length, IfOk, IfErr, OnOk, OnErr, IfSome, IfNone, MatchOption};
+ghost use Rattle.std.specs.Prelude.{◌≡◌, ◌+◌, ◌-◌, ◌<◌, ◌≤◌, ℕ, [], ◌∷◌, is_some, Some, None, Err};
+ghost use Rattle.std.specs.Prelude.{Option, length, IfOk, IfErr, OnOk, OnErr, IfSome, IfNone};
+ghost use Rattle.std.specs.Prelude.{MatchOption};
 ghost use Rattle.std.specs.Option.{option_map};
 ghost use Rattle.std.specs.Result.{result_err};
 ghost use Rattle.bolt_io.specs.declared.whole.TheConstants.{MOST_BYTES};
@@ -7,8 +9,12 @@ ghost use Rattle.text_lines.specs.Feed.{IsAtEnd, fresh_feed};
 ghost use Rattle.text_lines.specs.Reading.{FeedReads, IfTurns, IfMoreWanted, IsSpent};
 ghost use Rattle.graph_text.specs.declared.batch_reader.TheConstants.{MOST_EDITS};
 ghost use Rattle.graph_text.specs.StreamText.{unfinished as unfinished_of};
-ghost use Rattle.graph_text.specs.OpenCode.{IsPaired, unopened, begun_at, with_edit as with_edit_of, with_unknown as with_unknown_of, with_line, committed as committed_of};
-ghost use Rattle.graph_text.specs.BatchCode.{Reader, batches_ahead, IsBatchStuck, IsFirstEnded, NoBatchEnds};
+ghost use Rattle.graph_text.specs.OpenCode.{IsPaired, unopened, begun_at};
+ghost use Rattle.graph_text.specs.OpenCode.{with_edit as with_edit_of};
+ghost use Rattle.graph_text.specs.OpenCode.{with_unknown as with_unknown_of, with_line};
+ghost use Rattle.graph_text.specs.OpenCode.{committed as committed_of};
+ghost use Rattle.graph_text.specs.BatchCode.{Reader, batches_ahead, IsBatchStuck, IsFirstEnded};
+ghost use Rattle.graph_text.specs.BatchCode.{NoBatchEnds};
 
 use crate::bad_line::BadLine;
 use crate::batch_text::{BatchText, OpenBatch};
@@ -122,7 +128,8 @@ impl OpenBatch {
 
     // The batch that has no end, where one of its lines isn't empty.
     fn leave_open(self, alloc: Global) -> Option<BatchText>
-        ensures batch { MatchOption result (unfinished_of self.first_line ≡ []) (λ b. unfinished_of self.first_line ≡ b ∷ []) }
+        ensures batch { MatchOption result (unfinished_of self.first_line ≡ [])
+            (λ b. unfinished_of self.first_line ≡ b ∷ []) }
         ensures few { IfSome result (λ b. length b.edits ≤ MOST_EDITS) }
         ensures paired { IfSome result (λ b. length b.lines ≡ length b.edits) }
     {
@@ -139,7 +146,8 @@ impl OpenBatch {
     }
 }
 
-/// The next batch of a feed, or None where no further batch is in the text, which was read to its end.
+/// The next batch of a feed, or None where no further batch is in the text, which was read to its
+/// end.
 fn read_batch<S: Shelf>(
     alloc: Global,
     feed: &mut LineFeed,
@@ -154,14 +162,16 @@ fn read_batch<S: Shelf>(
     ensures few { IfOk result (λ r. IfSome r (λ b. length b.edits ≤ MOST_EDITS)) }
     ensures paired { IfOk result (λ r. IfSome r (λ b. length b.lines ≡ length b.edits)) }
     ensures more_lines { IfOk result (λ r. IfSome r (λ _. feed.old.lines + 1 ≤ feed.new.lines)) }
-    ensures reads { FeedReads S.told S.opened S.faults shelf.old shelf.new feed.old feed.new (result_err result) }
+    ensures reads { FeedReads S.told S.opened S.faults shelf.old shelf.new feed.old feed.new
+        (result_err result) }
     ensures fewer { IfOk result (λ r. IfNone r (feed.new.taken < MOST_BYTES)) }
     ensures first { IfOk result (λ r. IfSome r (λ b. (most : ℕ) → feed.new.taken ≤ most
         → IsFirstEnded b most (S.told shelf.old) (S.told shelf.new) feed.old feed.new)) }
     ensures unended { IfErr result (IfMoreWanted
         (IfSome (S.told shelf.old) (NoBatchEnds feed.new.taken feed.old))) }
     ensures due { IsSpent feed.old → result ≡ Err (FeedError.Turns MOST_BYTES) }
-    ensures stuck { IfErr result (IfTurns (λ _. IfSome (S.told shelf.old) (IsBatchStuck feed.old))) }
+    ensures stuck { IfErr result
+        (IfTurns (λ _. IfSome (S.told shelf.old) (IsBatchStuck feed.old))) }
     ensures not_stuck { OnOk result (IfSome (S.told shelf.old) (λ t. ¬ IsBatchStuck feed.old t)) }
 {
     let mut open = OpenBatch::new(alloc);
@@ -191,7 +201,10 @@ pub struct BatchReader {
 impl Model for BatchReader {
     ghost use Rattle.std.specs.Prelude.{◌≤◌};
     ghost use Rattle.graph_text.specs.StreamText.{unfinished as unfinished_of};
-    ghost use Rattle.graph_text.specs.OpenCode.{IsPaired, unopened, begun_at, with_edit as with_edit_of, with_unknown as with_unknown_of, with_line, committed as committed_of};
+    ghost use Rattle.graph_text.specs.OpenCode.{IsPaired, unopened, begun_at};
+    ghost use Rattle.graph_text.specs.OpenCode.{with_edit as with_edit_of};
+    ghost use Rattle.graph_text.specs.OpenCode.{with_unknown as with_unknown_of, with_line};
+    ghost use Rattle.graph_text.specs.OpenCode.{committed as committed_of};
     ghost use Rattle.graph_text.specs.BatchCode.{Reader};
 
     ghost Value = { Reader };
@@ -213,12 +226,15 @@ impl BatchReader {
         }
     }
 
-    /// The next batch, or None exactly where no further batch is in the text, which was read to its end. After an error the
-    /// batch that was begun is lost. `Turns` comes exactly where 2^40 bytes were taken, no line that ends in them ends the
+    /// The next batch, or None exactly where no further batch is in the text, which was read to its
+    /// end. After an error the
+    /// batch that was begun is lost. `Turns` comes exactly where 2^40 bytes were taken, no line
+    /// that ends in them ends the
     /// batch, and another read is needed.
     pub fn next<S: Shelf>(&mut self, shelf: &mut S) -> Result<Option<BatchText>, FeedError>
         requires slot { self.old.feed.slot < S.opened shelf.old }
-        ensures batch { IfOk result (λ r. IfSome r (λ b. batches_ahead (S.told shelf.old) self.old.feed
+        ensures batch { IfOk result (λ r. IfSome r
+            (λ b. batches_ahead (S.told shelf.old) self.old.feed
             ≡ option_map (λ rest. b ∷ rest) (batches_ahead (S.told shelf.new) self.new.feed))) }
         ensures none { IfOk result (λ r. IfNone r (batches_ahead (S.told shelf.old) self.old.feed
             ≡ option_map (λ _. []) (S.told shelf.new))) }
@@ -233,16 +249,20 @@ impl BatchReader {
             self.old.feed self.new.feed (result_err result) }
         ensures fewer { IfOk result (λ r. IfNone r (self.new.feed.taken < MOST_BYTES)) }
 
-        // Of the batches that ended in the bytes taken it is the first; at an error of reading none had.
+        // Of the batches that ended in the bytes taken it is the first; at an error of reading none
+        // had.
         ensures first { IfOk result (λ r. IfSome r (λ b. (most : ℕ) → self.new.feed.taken ≤ most
-            → IsFirstEnded b most (S.told shelf.old) (S.told shelf.new) self.old.feed self.new.feed)) }
+            → IsFirstEnded b most (S.told shelf.old) (S.told shelf.new) self.old.feed
+            self.new.feed)) }
         ensures unended { IfErr result (IfMoreWanted
             (IfSome (S.told shelf.old) (NoBatchEnds self.new.feed.taken self.old.feed))) }
 
         // `Turns` comes exactly where another read than the last that may be is needed.
         ensures due { IsSpent self.old.feed → result ≡ Err (FeedError.Turns MOST_BYTES) }
-        ensures stuck { IfErr result (IfTurns (λ _. IfSome (S.told shelf.old) (IsBatchStuck self.old.feed))) }
-        ensures not_stuck { OnOk result (IfSome (S.told shelf.old) (λ t. ¬ IsBatchStuck self.old.feed t)) }
+        ensures stuck { IfErr result
+            (IfTurns (λ _. IfSome (S.told shelf.old) (IsBatchStuck self.old.feed))) }
+        ensures not_stuck { OnOk result
+            (IfSome (S.told shelf.old) (λ t. ¬ IsBatchStuck self.old.feed t)) }
     {
         let batch = read_batch(self.alloc, &mut self.feed, shelf)?;
         if batch.is_some() {

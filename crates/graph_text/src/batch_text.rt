@@ -5,7 +5,8 @@ use crate::bad_line::BadLine;
 use bolt_base::{EditList, LineList, Memory};
 use std::alloc::Global;
 
-/// A batch of a stream: the number of its first line, its edits with the number of the line of each, and its bad line.
+/// A batch of a stream: the number of its first line, its edits with the number of the line of
+/// each, and its bad line.
 /// The edits are those before the bad line, and none where the batch has no end.
 #[derive(Debug, Drop)]
 pub struct BatchText {

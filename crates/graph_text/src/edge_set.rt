@@ -1,5 +1,7 @@
 // The edges of a graph that is being read.
-ghost use Rattle.std.specs.Prelude.{◌≡◌, ℕ, ◌+◌, ◌<◌, ◌^◌, ◌==◌, ◌&&◌, ◌||◌, false, length, vec_len, map as map_edges, is_some, is_none, slice_index_or, IfOk, OnOk, OnErr};
+ghost use Rattle.std.specs.Prelude.{◌≡◌, ℕ, ◌+◌, ◌<◌, ◌^◌, ◌==◌, ◌&&◌, ◌||◌, false, length};
+ghost use Rattle.std.specs.Prelude.{vec_len, map as map_edges, is_some, is_none, slice_index_or};
+ghost use Rattle.std.specs.Prelude.{IfOk, OnOk, OnErr};
 ghost use Rattle.std.specs.Bool.{OnTrue, OnFalse};
 ghost use Rattle.std.specs.FinMap as finite;
 ghost use Rattle.bolt_base.specs.Graph.{edges, outdeg, indeg};
@@ -11,7 +13,8 @@ use bolt_base::{Edge, EdgeList, Memory};
 use std::alloc::Global;
 use std::marker::Model;
 
-/// The edges of a graph in the order in which they came, no two with the same ends. Ends are looked up, and the edges of a
+/// The edges of a graph in the order in which they came, no two with the same ends. Ends are looked
+/// up, and the edges of a
 /// vertex counted, in few steps.
 #[derive(Drop)]
 pub struct EdgeSet {
@@ -51,7 +54,8 @@ fn cover_rows(rows: &mut Vec<Successors>, src: u32) -> Result<(), Memory>
 // Has a count for each vertex up to this one.
 fn cover_counts(counts: &mut Vec<u32>, vertex: u32) -> Result<(), Memory>
     ensures there { OnOk result (vertex < vec_len counts.new) }
-    ensures same { (v : ℕ) → slice_index_or counts.new.items v 0 ≡ slice_index_or counts.old.items v 0 }
+    ensures same { (v : ℕ) → slice_index_or counts.new.items v 0
+        ≡ slice_index_or counts.old.items v 0 }
 {
     let count = vertex as usize + 1;
     if counts.len() >= count {
@@ -65,10 +69,15 @@ fn cover_counts(counts: &mut Vec<u32>, vertex: u32) -> Result<(), Memory>
 fn add_out(rows: &mut Vec<Successors>, edge: Edge) -> Result<(), Memory>
     requires there { edge.src < vec_len rows.old }
     requires fits { count_at rows.old.items edge.src + 1 < 2 ^ 32 }
-    ensures held { OnOk result ((u v : ℕ) → has_at rows.new.items u v ≡ ((edge.src == u) && (edge.dst == v) || has_at rows.old.items u v)) }
-    ensures counts { OnOk result ((u : ℕ) → count_at rows.new.items u ≡ one_if (edge.src == u) + count_at rows.old.items u) }
-    ensures kept { OnErr result ((u v : ℕ) → has_at rows.new.items u v ≡ has_at rows.old.items u v) }
-    ensures same_counts { OnErr result ((u : ℕ) → count_at rows.new.items u ≡ count_at rows.old.items u) }
+    ensures held { OnOk result ((u v : ℕ)
+        → has_at rows.new.items u v ≡
+        ((edge.src == u) && (edge.dst == v) || has_at rows.old.items u v)) }
+    ensures counts { OnOk result ((u : ℕ)
+        → count_at rows.new.items u ≡ one_if (edge.src == u) + count_at rows.old.items u) }
+    ensures kept { OnErr result
+        ((u v : ℕ) → has_at rows.new.items u v ≡ has_at rows.old.items u v) }
+    ensures same_counts { OnErr result
+        ((u : ℕ) → count_at rows.new.items u ≡ count_at rows.old.items u) }
 {
     let row = &mut rows[edge.src as usize];
     row.put(edge.dst)?;
@@ -79,7 +88,8 @@ fn add_out(rows: &mut Vec<Successors>, edge: Edge) -> Result<(), Memory>
 fn add_in(counts: &mut Vec<u32>, vertex: u32)
     requires there { vertex < vec_len counts.old }
     requires fits { slice_index_or counts.old.items vertex 0 + 1 < 2 ^ 32 }
-    ensures { (v : ℕ) → slice_index_or counts.new.items v 0 ≡ one_if (vertex == v) + slice_index_or counts.old.items v 0 }
+    ensures { (v : ℕ) → slice_index_or counts.new.items v 0
+        ≡ one_if (vertex == v) + slice_index_or counts.old.items v 0 }
 {
     counts[vertex as usize] += 1;
 }
@@ -133,11 +143,14 @@ impl EdgeSet {
         }
     }
 
-    /// Puts the edge in unless one with its ends is there, and answers whether it did. After `Memory` the edges are the same.
+    /// Puts the edge in unless one with its ends is there, and answers whether it did. After
+    /// `Memory` the edges are the same.
     pub fn put(&mut self, edge: Edge) -> Result<bool, Memory>
         requires room { length (edges (edges_alone self.old)) + 1 < 2 ^ 32 }
-        ensures fresh { IfOk result (λ fresh. fresh ≡ is_none (finite.get self.old (edge.src, edge.dst))) }
-        ensures put { IfOk result (λ fresh. OnTrue fresh (self.new ≡ finite.insert self.old (edge.src, edge.dst) edge.weight)) }
+        ensures fresh { IfOk result (λ fresh. fresh
+            ≡ is_none (finite.get self.old (edge.src, edge.dst))) }
+        ensures put { IfOk result (λ fresh. OnTrue fresh
+            (self.new ≡ finite.insert self.old (edge.src, edge.dst) edge.weight)) }
         ensures kept { IfOk result (λ fresh. OnFalse fresh (self.new ≡ self.old)) }
         ensures err { OnErr result (self.new ≡ self.old) }
     {

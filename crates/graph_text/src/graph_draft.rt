@@ -1,21 +1,26 @@
 // A graph that is being read.
-ghost use Rattle.std.specs.Prelude.{◌≡◌, ◌&&◌, ◌==◌, nat_lt, if◌then◌else◌, Some, None, ℕ, ◌+◌, ◌<◌, ◌^◌, length, IfOk, OnOk, IfNone, vec_len, map, pos};
+ghost use Rattle.std.specs.Prelude.{◌≡◌, ◌&&◌, ◌==◌, nat_lt, if◌then◌else◌, Some, None, ℕ, ◌+◌};
+ghost use Rattle.std.specs.Prelude.{◌<◌, ◌^◌, length, IfOk, OnOk, IfNone, vec_len, map, pos};
 ghost use Rattle.std.specs.List.{range_with_len};
 ghost use Rattle.std.specs.Option.{unwrap_or};
 ghost use Rattle.bolt_base.specs.Graph.{edges};
 ghost use Rattle.bolt_base.specs.Edits.{is_between as is_between_of, unless, has_degrees, has_room};
-ghost use Rattle.graph_text.specs.GraphText.{cause as cause_of, taken_in, bound as bound_of, blank, complete};
+ghost use Rattle.graph_text.specs.GraphText.{cause as cause_of, taken_in, bound as bound_of, blank};
+ghost use Rattle.graph_text.specs.GraphText.{complete};
 ghost use Rattle.graph_text.specs.EdgeIndex.{edges_alone};
 ghost use Rattle.graph_text.specs.DraftCode.{attr_at, draft_of, named_in};
-ghost use Rattle.graph_text.specs.declared.graph_lines.GraphLine.TheVariants.{Vertices, Attr, Edge as EdgeLine};
+ghost use Rattle.graph_text.specs.declared.graph_lines.GraphLine.TheVariants.{Vertices, Attr};
+ghost use Rattle.graph_text.specs.declared.graph_lines.GraphLine.TheVariants.{Edge as EdgeLine};
 
 use crate::edge_set::EdgeSet;
 use crate::graph_lines::GraphLine;
 use bolt_base::{AttrList, Edge, GraphData, Limits, LineCause, Memory};
 use std::alloc::Global;
 
-/// The lines so far of a graph text: whether one of them isn't empty, the number of vertices where it was told, 1 more than the
-/// greatest vertex that was named, the attributes up to the greatest vertex that was given one, and the edges.
+/// The lines so far of a graph text: whether one of them isn't empty, the number of vertices where
+/// it was told, 1 more than the
+/// greatest vertex that was named, the attributes up to the greatest vertex that was given one, and
+/// the edges.
 #[derive(Drop)]
 pub struct GraphDraft {
     pub begun: bool,
@@ -50,7 +55,8 @@ fn attr_of(attrs: &[Option<i64>], vertex: usize) -> Option<i64>
 
 /// The attributes of that many vertices, 0 where none was given.
 fn attrs_of(alloc: Global, given: &[Option<i64>], count: usize) -> Result<AttrList, Memory>
-    ensures { IfOk result (λ attrs. attrs ≡ map (λ v. unwrap_or (attr_at given.now v) (pos 0)) (range_with_len 0 count)) }
+    ensures { IfOk result (λ attrs. attrs
+        ≡ map (λ v. unwrap_or (attr_at given.now v) (pos 0)) (range_with_len 0 count)) }
 {
     let mut attrs = AttrList::new(alloc);
     for v in 0..count {
@@ -62,7 +68,8 @@ fn attrs_of(alloc: Global, given: &[Option<i64>], count: usize) -> Result<AttrLi
 /// Gives a vertex an attribute.
 fn set_attr(attrs: &mut Vec<Option<i64>>, vertex: u32, attr: i64)
     requires { vertex < vec_len attrs.old }
-    ensures { (v : ℕ) → attr_at attrs.new.items v ≡ (if v == vertex then Some attr else attr_at attrs.old.items v) }
+    ensures { (v : ℕ) → attr_at attrs.new.items v
+        ≡ (if v == vertex then Some attr else attr_at attrs.old.items v) }
 {
     attrs[vertex as usize] = Some(attr);
 }
@@ -106,7 +113,8 @@ impl GraphDraft {
     #[tactic(auto, unfolding(crate::specs::GraphText::cause, crate::specs::GraphText::taken_in))]
     fn take_vertices(&mut self, limits: &Limits, count: u32) -> Option<LineCause>
         ensures cause { result ≡ cause_of limits.now (draft_of self.old) (Vertices count) }
-        ensures taken { IfNone result (draft_of self.new ≡ taken_in (draft_of self.old) (Vertices count)) }
+        ensures taken { IfNone result
+            (draft_of self.new ≡ taken_in (draft_of self.old) (Vertices count)) }
     {
         if self.begun {
             return Some(LineCause::Syntax);
@@ -127,8 +135,10 @@ impl GraphDraft {
         vertex: u32,
         attr: i64,
     ) -> Result<Option<LineCause>, Memory>
-        ensures cause { IfOk result (λ r. r ≡ cause_of limits.now (draft_of self.old) (Attr vertex attr)) }
-        ensures taken { IfOk result (λ r. IfNone r (draft_of self.new ≡ taken_in (draft_of self.old) (Attr vertex attr))) }
+        ensures cause { IfOk result (λ r. r
+            ≡ cause_of limits.now (draft_of self.old) (Attr vertex attr)) }
+        ensures taken { IfOk result (λ r. IfNone r
+            (draft_of self.new ≡ taken_in (draft_of self.old) (Attr vertex attr))) }
     {
         if vertex >= self.bound(limits) {
             return Ok(Some(LineCause::Vertex));
@@ -145,10 +155,13 @@ impl GraphDraft {
         Ok(None)
     }
 
-    // The cause for which an edge is bad, but for an edge that is there already and for the limits of degrees and edges.
+    // The cause for which an edge is bad, but for an edge that is there already and for the limits
+    // of degrees and edges.
     fn ends_cause(&self, limits: &Limits, edge: Edge) -> Option<LineCause>
-        ensures { result ≡ unless (nat_lt edge.src (bound_of limits.now (draft_of self.now)) && nat_lt edge.dst (bound_of limits.now (draft_of self.now))) LineCause.Vertex
-            (unless (is_between_of limits.now.weight_lo limits.now.weight_hi edge.weight) LineCause.Weight None) }
+        ensures { result ≡ unless (nat_lt edge.src (bound_of limits.now (draft_of self.now))
+            && nat_lt edge.dst (bound_of limits.now (draft_of self.now))) LineCause.Vertex
+            (unless (is_between_of limits.now.weight_lo limits.now.weight_hi edge.weight)
+            LineCause.Weight None) }
     {
         let bound = self.bound(limits);
         if !(edge.src < bound && edge.dst < bound) {
@@ -163,7 +176,8 @@ impl GraphDraft {
     // The cause for which one more edge is too many, or none.
     fn room_cause(&self, limits: &Limits, edge: Edge) -> Option<LineCause>
         ensures fits { IfNone result (length (edges (edges_alone self.now.edges)) + 1 < 2 ^ 32) }
-        ensures cause { result ≡ unless (has_degrees limits.now (edges_alone self.now.edges) edge.src edge.dst) LineCause.Degree
+        ensures cause { result ≡ unless
+            (has_degrees limits.now (edges_alone self.now.edges) edge.src edge.dst) LineCause.Degree
             (unless (has_room limits.now (edges_alone self.now.edges)) LineCause.Edges None) }
     {
         let out_degree = self.edges.out_degree(edge.src);
@@ -179,8 +193,10 @@ impl GraphDraft {
 
     // Takes in an edge, unless it is bad.
     fn take_edge(&mut self, limits: &Limits, edge: Edge) -> Result<Option<LineCause>, Memory>
-        ensures cause { IfOk result (λ r. r ≡ cause_of limits.now (draft_of self.old) (EdgeLine edge)) }
-        ensures taken { IfOk result (λ r. IfNone r (draft_of self.new ≡ taken_in (draft_of self.old) (EdgeLine edge))) }
+        ensures cause { IfOk result (λ r. r
+            ≡ cause_of limits.now (draft_of self.old) (EdgeLine edge)) }
+        ensures taken { IfOk result (λ r. IfNone r
+            (draft_of self.new ≡ taken_in (draft_of self.old) (EdgeLine edge))) }
     {
         if let Some(cause) = self.ends_cause(limits, edge) {
             return Ok(Some(cause));
@@ -204,7 +220,8 @@ impl GraphDraft {
         line: GraphLine,
     ) -> Result<Option<LineCause>, Memory>
         ensures cause { IfOk result (λ r. r ≡ cause_of limits.now (draft_of self.old) line) }
-        ensures taken { IfOk result (λ r. IfNone r (draft_of self.new ≡ taken_in (draft_of self.old) line)) }
+        ensures taken { IfOk result (λ r. IfNone r
+            (draft_of self.new ≡ taken_in (draft_of self.old) line)) }
     {
         match line {
             GraphLine::Empty => Ok(None),

@@ -1,11 +1,16 @@
 // The lines of a graph text.
 ghost use Rattle.std.specs.Prelude.{◌≡◌};
 ghost use Rattle.std.specs.Option.{option_map};
-ghost use Rattle.text_lines.specs.Words.{split_words};
-ghost use Rattle.graph_text.specs.GraphText.{vertices_line as vertices_line_of, attr_line as attr_line_of, edge_line as edge_line_of, two_words as two_words_of, three_words as three_words_of, form_of as form_of_words, graph_line as graph_line_of};
+ghost use Rattle.lexical.specs.Words.{split_words};
+ghost use Rattle.graph_text.specs.GraphText.{vertices_line as vertices_line_of};
+ghost use Rattle.graph_text.specs.GraphText.{attr_line as attr_line_of, edge_line as edge_line_of};
+ghost use Rattle.graph_text.specs.GraphText.{two_words as two_words_of};
+ghost use Rattle.graph_text.specs.GraphText.{three_words as three_words_of};
+ghost use Rattle.graph_text.specs.GraphText.{form_of as form_of_words, graph_line as graph_line_of};
 
 use bolt_base::Edge;
-use text_lines::{before_comment, next_word, vertex_word, whole_word};
+use lexical::{before_comment, next_word};
+use text_lines::{vertex_word, whole_word};
 
 /// What a line of a graph text says.
 #[derive(Clone, Copy, Debug)]

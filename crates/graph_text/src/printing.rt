@@ -3,7 +3,8 @@ ghost use Rattle.std.specs.Prelude.{◌≡◌, ◌<◌, ◌++◌, ◌∷◌, [],
 ghost use Rattle.std.specs.Fmt.{signed_decimal};
 ghost use Rattle.std.specs.List.{flat_map, range_with_len};
 ghost use Rattle.bolt_base.specs.Graph.{edges};
-ghost use Rattle.graph_text.specs.Printed.{two_words, graph_text, batch_text, count_text, attr_text, edge_text, edit_text};
+ghost use Rattle.graph_text.specs.Printed.{two_words, graph_text, batch_text, count_text};
+ghost use Rattle.graph_text.specs.Printed.{attr_text, edge_text, edit_text};
 
 use crate::weight_map::WeightMap;
 use bolt_base::{Bytes, Edge, EdgeList, Edit, GraphData, Memory};
@@ -111,7 +112,8 @@ fn put_edit(out: &mut Bytes, edit: Edit) -> Result<(), Memory>
 }
 
 fn put_attrs(out: &mut Bytes, attrs: &[i64]) -> Result<(), Memory>
-    ensures { OnOk result (out.new ≡ out.old ++ flat_map (attr_text attrs.now) (range_with_len 0 (length attrs.now))) }
+    ensures { OnOk result (out.new ≡ out.old
+        ++ flat_map (attr_text attrs.now) (range_with_len 0 (length attrs.now))) }
 {
     for vertex in 0..attrs.len() {
         put_attr(out, attrs, vertex)?;

@@ -1,11 +1,17 @@
 // The lines of a stream of edits.
 ghost use Rattle.std.specs.Prelude.{◌≡◌};
 ghost use Rattle.std.specs.Option.{option_map};
-ghost use Rattle.text_lines.specs.Words.{split_words};
-ghost use Rattle.graph_text.specs.StreamText.{add_line as add_line_of, cut_line as cut_line_of, attr_line as attr_line_of, one_word as one_word_of, three_words as three_words_of, four_words as four_words_of, form_of as form_of_words, stream_line as stream_line_of};
+ghost use Rattle.lexical.specs.Words.{split_words};
+ghost use Rattle.graph_text.specs.StreamText.{add_line as add_line_of, cut_line as cut_line_of};
+ghost use Rattle.graph_text.specs.StreamText.{attr_line as attr_line_of, one_word as one_word_of};
+ghost use Rattle.graph_text.specs.StreamText.{three_words as three_words_of};
+ghost use Rattle.graph_text.specs.StreamText.{four_words as four_words_of};
+ghost use Rattle.graph_text.specs.StreamText.{form_of as form_of_words};
+ghost use Rattle.graph_text.specs.StreamText.{stream_line as stream_line_of};
 
 use bolt_base::{Edge, Edit};
-use text_lines::{before_comment, next_word, vertex_word, whole_word};
+use lexical::{before_comment, next_word};
+use text_lines::{vertex_word, whole_word};
 
 /// What a line of a stream says.
 #[derive(Clone, Copy, Debug)]

@@ -9,8 +9,10 @@ use std::collections::BTreeSet;
 // The most successors of a vertex that have their place beside their number.
 const NEAR: usize = 15;
 
-/// The successors of a vertex: their number, the first 15 in the order in which they came, and the others in an ordered set.
-/// So most look-ups touch one piece of memory, and each takes few steps however many successors there are.
+/// The successors of a vertex: their number, the first 15 in the order in which they came, and the
+/// others in an ordered set.
+/// So most look-ups touch one piece of memory, and each takes few steps however many successors
+/// there are.
 #[derive(Drop)]
 pub struct Successors {
     pub count: u32,

@@ -57,8 +57,10 @@ impl WeightMap {
 
     /// Puts the edge in, and answers whether no edge with its ends was there.
     pub fn put(&mut self, edge: Edge) -> Result<bool, Memory>
-        ensures fresh { IfOk result (λ fresh. fresh ≡ is_none (finite.get self.old (edge.src, edge.dst))) }
-        ensures put { OnOk result (self.new ≡ finite.insert self.old (edge.src, edge.dst) edge.weight) }
+        ensures fresh { IfOk result (λ fresh. fresh
+            ≡ is_none (finite.get self.old (edge.src, edge.dst))) }
+        ensures put { OnOk result (self.new
+            ≡ finite.insert self.old (edge.src, edge.dst) edge.weight) }
     {
         let old = self.map.insert((edge.src, edge.dst), edge.weight)?;
         Ok(old.is_none())

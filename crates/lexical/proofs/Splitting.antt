@@ -1,5 +1,6 @@
 -- The parts of a list that is split, from its front.
-use Rattle.std.proofs.Common.{◌≡◌, ℕ, ◌<◌, Bool, true, false, cond, List, [], ◌∷◌, ◌++◌, length, get_or, take, All, refl, sym, ◌∙◌, ap, arith}
+use Rattle.std.proofs.Common.{◌≡◌, ℕ, ◌<◌, Bool, true, false, cond, List, [], ◌∷◌, ◌++◌, length}
+use Rattle.std.proofs.Common.{get_or, take, All, refl, sym, ◌∙◌, ap, arith}
 use Rattle.std.specs.Prelude.{not}
 use Rattle.std.specs.List.{prefix_len, slice_split, onto_first}
 use Rattle.std.proofs.lemmas.List.{get_or-take}
@@ -17,7 +18,8 @@ first_onto : (x : ℕ) (parts : List (List ℕ)) → IsSomeParts (onto_first x p
 first_onto x [] = record { first = x ∷ []; others = []; are = refl }
 first_onto x (p ∷ ps) = record { first = x ∷ p; others = ps; are = refl }
 
-first_of_either : (b : Bool) (x : ℕ) (parts : List (List ℕ)) → IsSomeParts (cond b ([] ∷ parts) (onto_first x parts))
+first_of_either : (b : Bool) (x : ℕ) (parts : List (List ℕ))
+    → IsSomeParts (cond b ([] ∷ parts) (onto_first x parts))
 first_of_either true x parts = record { first = []; others = parts; are = refl }
 first_of_either false x parts = first_onto x parts
 
@@ -30,17 +32,21 @@ abbrev pub onto_parts : List ℕ → List (List ℕ) → List (List ℕ)
 onto_parts xs [] = xs ∷ []
 onto_parts xs (part ∷ parts) = (xs ++ part) ∷ parts
 
-onto_first-onto_parts : (x : ℕ) (xs : List ℕ) (parts : List (List ℕ)) → onto_first x (onto_parts xs parts) ≡ onto_parts (x ∷ xs) parts
+onto_first-onto_parts : (x : ℕ) (xs : List ℕ) (parts : List (List ℕ))
+    → onto_first x (onto_parts xs parts) ≡ onto_parts (x ∷ xs) parts
 onto_first-onto_parts x xs [] = refl
 onto_first-onto_parts x xs (part ∷ parts) = refl
 
 onto_parts-nil : (parts : List (List ℕ)) → IsSomeParts parts → parts ≡ onto_parts [] parts
-onto_parts-nil parts some = ap (λ (l : List (List ℕ)). l) some.are ∙ ap (onto_parts []) (sym some.are)
+onto_parts-nil parts some =
+    ap (λ (l : List (List ℕ)). l) some.are ∙ ap (onto_parts []) (sym some.are)
 
-pub slice_split-append : (p : ℕ → Bool) (xs ys : List ℕ) → All (λ x. p x ≡ false) xs → slice_split p (xs ++ ys) ≡ onto_parts xs (slice_split p ys)
+pub slice_split-append : (p : ℕ → Bool) (xs ys : List ℕ) → All (λ x. p x ≡ false) xs
+    → slice_split p (xs ++ ys) ≡ onto_parts xs (slice_split p ys)
 slice_split-append p [] ys none = onto_parts-nil (slice_split p ys) (first_of_split p ys)
 slice_split-append p (x ∷ xs) ys none =
-    ap (λ b. cond b ([] ∷ slice_split p (xs ++ ys)) (onto_first x (slice_split p (xs ++ ys)))) (All-head (λ y. p y ≡ false) x xs none)
+    ap (λ b. cond b ([] ∷ slice_split p (xs ++ ys)) (onto_first x (slice_split p (xs ++ ys))))
+    (All-head (λ y. p y ≡ false) x xs none)
     ∙ ap (onto_first x) (slice_split-append p xs ys (All-tail (λ y. p y ≡ false) x xs none))
     ∙ onto_first-onto_parts x xs (slice_split p ys)
 
@@ -53,13 +59,16 @@ true_of_not true e = refl
 true_of_not false e = sym e
 
 -- what stands before the first element that passes a test doesn't pass it
-pub none_before : (p : ℕ → Bool) (xs : List ℕ) → All (λ x. p x ≡ false) (take (prefix_len (λ x. not (p x)) xs) xs)
+pub none_before : (p : ℕ → Bool) (xs : List ℕ)
+    → All (λ x. p x ≡ false) (take (prefix_len (λ x. not (p x)) xs) xs)
 none_before p xs = λ k d h.
     let n = prefix_len (λ x. not (p x)) xs in
     let size : length (take n xs) ≡ n = length-prefix_len (λ x. not (p x)) xs in
     let less : k < n = omega arith in
-    ap p (get_or-take n xs k d less) ∙ false_of_not (p (get_or xs k d)) (prefix_len_passes (λ x. not (p x)) xs k d less)
+    ap p (get_or-take n xs k d less)
+    ∙ false_of_not (p (get_or xs k d)) (prefix_len_passes (λ x. not (p x)) xs k d less)
 
 -- and that element does
-pub passes_next : (p : ℕ → Bool) (xs : List ℕ) → prefix_len (λ x. not (p x)) xs < length xs → p (get_or xs (prefix_len (λ x. not (p x)) xs) 0) ≡ true
+pub passes_next : (p : ℕ → Bool) (xs : List ℕ) → prefix_len (λ x. not (p x)) xs < length xs
+    → p (get_or xs (prefix_len (λ x. not (p x)) xs) 0) ≡ true
 passes_next p xs l = true_of_not _ (prefix_len_stops (λ x. not (p x)) xs 0 l)

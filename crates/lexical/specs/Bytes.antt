@@ -1,5 +1,6 @@
 -- The bytes that texts are divided by.
-use Rattle.std.specs.Prelude.{ℕ, ◌-◌, ◌==◌, Bool, ◌||◌, not, if◌then◌else◌, List, length, take, slice_index}
+use Rattle.std.specs.Prelude.{ℕ, ◌-◌, ◌==◌, Bool, ◌||◌, not, if◌then◌else◌, List, length, take}
+use Rattle.std.specs.Prelude.{slice_index}
 use Rattle.std.specs.List.{take_while}
 
 abbrev pub is_line_feed : ℕ → Bool

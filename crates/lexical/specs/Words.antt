@@ -1,5 +1,6 @@
 -- The words of a line.
-use Rattle.std.specs.Prelude.{ℕ, zero, suc, ◌+◌, ◌-◌, ◌==◌, Bool, not, if◌then◌else◌, List, [], ◌∷◌, length}
+use Rattle.std.specs.Prelude.{ℕ, zero, suc, ◌+◌, ◌-◌, ◌==◌, Bool, not, if◌then◌else◌, List, [], ◌∷◌}
+use Rattle.std.specs.Prelude.{length}
 use Rattle.std.specs.List.{filter, take_while, prefix_len, slice_split}
 use Rattle.lexical.specs.Bytes.{is_blank, is_no_blank, before_comment}
 

@@ -1,7 +1,10 @@
 //! Bytes that texts are divided by.
 ghost use Rattle.std.specs.Prelude.{◌≡◌, ◌≤◌, length};
 ghost use Rattle.std.specs.List.{prefix_len};
-ghost use Rattle.lexical.specs.Bytes.{is_blank as is_blank_byte, is_no_blank, is_no_line_feed, is_no_hash, without_carriage_return as without_carriage_return_of, before_comment as before_comment_of};
+ghost use Rattle.lexical.specs.Bytes.{is_blank as is_blank_byte, is_no_blank, is_no_line_feed};
+ghost use Rattle.lexical.specs.Bytes.{is_no_hash};
+ghost use Rattle.lexical.specs.Bytes.{without_carriage_return as without_carriage_return_of};
+ghost use Rattle.lexical.specs.Bytes.{before_comment as before_comment_of};
 
 /// Whether a byte is a space or a tab.
 pub fn is_blank(b: u8) -> bool

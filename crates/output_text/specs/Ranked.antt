@@ -22,4 +22,6 @@ pub record IsUnderWay (p : Progress) : Type 0 where
 abbrev pub coded_progress : Coded Progress
 coded_progress =
     code_by (ℕ × (Graph × (ℕ × ℕ))) (coded× coded_ℕ (coded× coded_graph (coded× coded_ℕ coded_ℕ)))
-    (λ p. (p.began, (p.graph, (p.accepted, p.refused)))) (λ q. record { began = q.0; graph = q.1.0; accepted = q.1.1.0; refused = q.1.1.1 }) (λ _. refl)
+    (λ p. (p.began, (p.graph, (p.accepted, p.refused))))
+    (λ q. record { began = q.0; graph = q.1.0; accepted = q.1.1.0; refused = q.1.1.1 })
+    (λ _. refl)

@@ -10,7 +10,8 @@ use Rattle.graph_text.specs.declared.batch_text.BatchText.{BatchText}
 use Rattle.graph_text.specs.Outcome.{outcome}
 use Rattle.output_text.specs.Lines.{open_lines, accepted_lines, refused_line, end_lines}
 
--- a run between two batches: how many vertices its graph had at the opening, its graph, and how many batches were accepted and
+-- a run between two batches: how many vertices its graph had at the opening, its graph, and how
+-- many batches were accepted and
 -- refused so far
 pub record Progress : Type 0 where
   pub began : ℕ
@@ -48,7 +49,9 @@ open_text g = open_lines (vertices g) (length (edges g)) (answer g)
 
 -- accepted batch k, which turns the graph g into h
 abbrev pub accepted_text : ℕ → Graph → Graph → List ℕ
-accepted_text k g h = accepted_lines k (length (added g h)) (length (removed g h)) (length (edges h)) (answer g) (answer h)
+accepted_text k g h =
+    accepted_lines k (length (added g h)) (length (removed g h)) (length (edges h)) (answer g)
+    (answer h)
 
 -- what is written of a batch
 abbrev pub batch_text_by : Progress → BatchText → Option BadLine → List ℕ

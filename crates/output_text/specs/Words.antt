@@ -1,5 +1,7 @@
 -- The words of a command line.
-use Rattle.std.specs.Prelude.{ℕ, Bool, List, [], map, length, String, string_bytes, Option, Some, None, codes, slice_index_or, ◌==◌, ◌&&◌, nat_eq, nat_lt, not, if◌then◌else◌}
+use Rattle.std.specs.Prelude.{ℕ, Bool, List, [], map, length, String, string_bytes, Option, Some}
+use Rattle.std.specs.Prelude.{None, codes, slice_index_or, ◌==◌, ◌&&◌, nat_eq, nat_lt, not}
+use Rattle.std.specs.Prelude.{if◌then◌else◌}
 use Rattle.std.specs.Str.{bytes_eq}
 use Rattle.std.specs.List.{starts_with}
 
@@ -15,7 +17,8 @@ word_at words k = slice_index_or words k []
 abbrev pub is_file : List ℕ → Bool
 is_file word = not (length word == 0) && not (starts_with nat_eq word (codes "--"))
 
--- the place, counted from 1, of the first word that is wrong or missing in `run rank GRAPH STREAM`, if there is one
+-- the place, counted from 1, of the first word that is wrong or missing in `run rank GRAPH STREAM`,
+-- if there is one
 abbrev pub wrong_at : List (List ℕ) → Option ℕ
 wrong_at words =
     if not (bytes_eq (word_at words 0) (codes "run")) then Some 1

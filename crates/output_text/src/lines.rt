@@ -8,44 +8,34 @@ ghost use Rattle.output_text.specs.Lines.{cause_word as cause_word_of};
 ghost use Rattle.output_text.specs.Lines.{refused_line as refused_line_of};
 ghost use Rattle.output_text.specs.Lines.{end_lines as end_lines_of};
 
-use bolt_base::{LineCause, Memory};
+use bolt_base::{Bytes, LineCause, Memory};
 use graph_text::BadLine;
-use itoa::{Buffer, Integer};
 use std::alloc::Global;
 
-/// Appends a number in decimal digits, with `-` before a negative one.
-pub fn push_number<I: Integer>(out: &mut Vec<u8>, n: I) -> Result<(), Memory>
-    ensures { OnOk result (out.new.items ≡ out.old.items ++ I.text n) }
-{
-    let mut buffer = Buffer::new();
-    out.extend_from_slice(buffer.format(n).as_bytes())?;
-    Ok(())
-}
-
-fn push_labelled(out: &mut Vec<u8>, label: &[u8], n: u64) -> Result<(), Memory>
-    ensures { OnOk result (out.new.items ≡ out.old.items ++ labelled label.now n) }
+fn push_labelled(out: &mut Bytes, label: &[u8], n: u64) -> Result<(), Memory>
+    ensures { OnOk result (out.new ≡ out.old ++ labelled label.now n) }
 {
     out.extend_from_slice(label)?;
-    push_number(out, n)?;
+    out.push_decimal(n)?;
     Ok(())
 }
 
 // Appends a word, a vertex and its value in the row.
-fn push_entry(out: &mut Vec<u8>, word: &[u8], row: &[i64], vertex: usize) -> Result<(), Memory>
+fn push_entry(out: &mut Bytes, word: &[u8], row: &[i64], vertex: usize) -> Result<(), Memory>
     requires { vertex < length row.now }
-    ensures { OnOk result (out.new.items
-        ≡ out.old.items ++ entry word.now vertex (value_at row.now vertex)) }
+    ensures { OnOk result (out.new
+        ≡ out.old ++ entry word.now vertex (value_at row.now vertex)) }
 {
     out.extend_from_slice(word)?;
-    push_number(out, vertex)?;
+    out.push_decimal(vertex as u64)?;
     out.extend_from_slice(b" ")?;
-    push_number(out, row[vertex])?;
+    out.push_signed(row[vertex])?;
     out.extend_from_slice(b"\n")?;
     Ok(())
 }
 
-fn push_values(out: &mut Vec<u8>, row: &[i64]) -> Result<(), Memory>
-    ensures { OnOk result (out.new.items ≡ out.old.items ++ value_lines row.now) }
+fn push_values(out: &mut Bytes, row: &[i64]) -> Result<(), Memory>
+    ensures { OnOk result (out.new ≡ out.old ++ value_lines row.now) }
 {
     for v in 0..row.len() {
         push_entry(out, b"value ", row, v)?;
@@ -54,9 +44,9 @@ fn push_values(out: &mut Vec<u8>, row: &[i64]) -> Result<(), Memory>
 }
 
 // Appends a vertex's new value, or nothing where it was there before with the same one.
-fn push_set(out: &mut Vec<u8>, old: &[i64], new: &[i64], vertex: usize) -> Result<(), Memory>
+fn push_set(out: &mut Bytes, old: &[i64], new: &[i64], vertex: usize) -> Result<(), Memory>
     requires { vertex < length new.now }
-    ensures { OnOk result (out.new.items ≡ out.old.items ++ set_line old.now new.now vertex) }
+    ensures { OnOk result (out.new ≡ out.old ++ set_line old.now new.now vertex) }
 {
     if vertex < old.len() && old[vertex] == new[vertex] {
         return Ok(());
@@ -65,8 +55,8 @@ fn push_set(out: &mut Vec<u8>, old: &[i64], new: &[i64], vertex: usize) -> Resul
     Ok(())
 }
 
-fn push_sets(out: &mut Vec<u8>, old: &[i64], new: &[i64]) -> Result<(), Memory>
-    ensures { OnOk result (out.new.items ≡ out.old.items ++ set_lines old.now new.now) }
+fn push_sets(out: &mut Bytes, old: &[i64], new: &[i64]) -> Result<(), Memory>
+    ensures { OnOk result (out.new ≡ out.old ++ set_lines old.now new.now) }
 {
     for v in 0..new.len() {
         push_set(out, old, new, v)?;
@@ -75,10 +65,10 @@ fn push_sets(out: &mut Vec<u8>, old: &[i64], new: &[i64]) -> Result<(), Memory>
 }
 
 /// The opening lines of a graph with these numbers of vertices and edges, and this answer.
-pub fn open_lines(alloc: Global, vertices: u64, edges: u64, row: &[i64]) -> Result<Vec<u8>, Memory>
-    ensures { IfOk result (λ text. text.items ≡ open_lines_of vertices edges row.now) }
+pub fn open_lines(alloc: Global, vertices: u64, edges: u64, row: &[i64]) -> Result<Bytes, Memory>
+    ensures { IfOk result (λ text. text ≡ open_lines_of vertices edges row.now) }
 {
-    let mut out = Vec::new(alloc);
+    let mut out = Bytes::new(alloc);
     push_labelled(&mut out, b"open vertices ", vertices)?;
     push_labelled(&mut out, b" edges ", edges)?;
     out.extend_from_slice(b"\n")?;
@@ -102,11 +92,11 @@ pub fn accepted_lines(
     batch: &BatchNumbers,
     old: &[i64],
     new: &[i64],
-) -> Result<Vec<u8>, Memory>
+) -> Result<Bytes, Memory>
     ensures { let b = batch.now in IfOk result (λ text.
-        text.items ≡ accepted_lines_of b.number b.added b.removed b.edges old.now new.now) }
+        text ≡ accepted_lines_of b.number b.added b.removed b.edges old.now new.now) }
 {
-    let mut out = Vec::new(alloc);
+    let mut out = Bytes::new(alloc);
     push_labelled(&mut out, b"batch ", batch.number)?;
     push_labelled(&mut out, b" accepted added ", batch.added)?;
     push_labelled(&mut out, b" removed ", batch.removed)?;
@@ -134,8 +124,8 @@ fn cause_word(cause: LineCause) -> &'static [u8]
 }
 
 /// Appends where and why something is refused, to the end of the line.
-pub fn push_refused_at(out: &mut Vec<u8>, bad: &BadLine) -> Result<(), Memory>
-    ensures { OnOk result (out.new.items ≡ out.old.items ++ refused_at bad.now) }
+pub fn push_refused_at(out: &mut Bytes, bad: &BadLine) -> Result<(), Memory>
+    ensures { OnOk result (out.new ≡ out.old ++ refused_at bad.now) }
 {
     push_labelled(out, b" refused line ", bad.line)?;
     out.extend_from_slice(b" ")?;
@@ -145,21 +135,21 @@ pub fn push_refused_at(out: &mut Vec<u8>, bad: &BadLine) -> Result<(), Memory>
 }
 
 /// The line of a refused batch.
-pub fn refused_line(alloc: Global, number: u64, bad: &BadLine) -> Result<Vec<u8>, Memory>
-    ensures { IfOk result (λ text. text.items ≡ refused_line_of number bad.now) }
+pub fn refused_line(alloc: Global, number: u64, bad: &BadLine) -> Result<Bytes, Memory>
+    ensures { IfOk result (λ text. text ≡ refused_line_of number bad.now) }
 {
-    let mut out = Vec::new(alloc);
+    let mut out = Bytes::new(alloc);
     push_labelled(&mut out, b"batch ", number)?;
     push_refused_at(&mut out, bad)?;
     Ok(out)
 }
 
 /// The last lines: the sum of the values, and the numbers of accepted and refused batches.
-pub fn end_lines(alloc: Global, total: i64, accepted: u64, refused: u64) -> Result<Vec<u8>, Memory>
-    ensures { IfOk result (λ text. text.items ≡ end_lines_of total accepted refused) }
+pub fn end_lines(alloc: Global, total: i64, accepted: u64, refused: u64) -> Result<Bytes, Memory>
+    ensures { IfOk result (λ text. text ≡ end_lines_of total accepted refused) }
 {
-    let mut out = Vec::from_slice(alloc, b"total 0 ")?;
-    push_number(&mut out, total)?;
+    let mut out = Bytes::from_slice(alloc, b"total 0 ")?;
+    out.push_signed(total)?;
     push_labelled(&mut out, b"\nend accepted ", accepted)?;
     push_labelled(&mut out, b" refused ", refused)?;
     out.extend_from_slice(b"\n")?;

@@ -11,7 +11,7 @@ ghost use Rattle.output_text.specs.Run.{next_number as next_number_of, end_text 
 
 use crate::lines::{end_lines, refused_line};
 use crate::ranked::Ranked;
-use bolt_base::{GraphData, Limits, Memory};
+use bolt_base::{Bytes, GraphData, Limits, Memory};
 use graph_text::{BadLine, BatchText};
 use plain_graph::apply;
 use rank_rows::limits;
@@ -117,10 +117,10 @@ impl Progress {
     }
 
     // Moves to the graph after an accepted batch, and answers the batch's lines.
-    fn accept(&mut self, alloc: Global, graph: GraphData) -> Result<Vec<u8>, Memory>
+    fn accept(&mut self, alloc: Global, graph: GraphData) -> Result<Bytes, Memory>
         requires good { IsGood (batch_limits self.old) graph }
         requires few { next_number_of self.old < 2 ^ 64 }
-        ensures text { IfOk result (λ text. text.items
+        ensures text { IfOk result (λ text. text
             ≡ accepted_text (next_number_of self.old) self.old.graph graph) }
         ensures moved { OnOk result (self.new
             ≡ record self.old { graph = graph; accepted = self.old.accepted + 1 }) }
@@ -135,9 +135,9 @@ impl Progress {
     }
 
     // Counts a refused batch, and answers its line.
-    fn refuse(&mut self, alloc: Global, bad: &BadLine) -> Result<Vec<u8>, Memory>
+    fn refuse(&mut self, alloc: Global, bad: &BadLine) -> Result<Bytes, Memory>
         requires few { next_number_of self.old < 2 ^ 64 }
-        ensures text { IfOk result (λ text. text.items
+        ensures text { IfOk result (λ text. text
             ≡ refused_line_of (next_number_of self.old) bad.now) }
         ensures moved { OnOk result (self.new
             ≡ record self.old { refused = self.old.refused + 1 }) }
@@ -149,10 +149,10 @@ impl Progress {
     }
 
     /// Judges the next batch, moves on, and answers what is written of the batch.
-    pub fn take(&mut self, alloc: Global, batch: &BatchText) -> Result<Vec<u8>, Memory>
+    pub fn take(&mut self, alloc: Global, batch: &BatchText) -> Result<Bytes, Memory>
         requires lines { length batch.now.lines ≡ length batch.now.edits }
         requires few { next_number_of self.old < 2 ^ 64 }
-        ensures text { IfOk result (λ text. text.items ≡ batch_text self.old batch.now) }
+        ensures text { IfOk result (λ text. text ≡ batch_text self.old batch.now) }
         ensures moved { OnOk result (self.new ≡ moved self.old batch.now) }
         ensures counted { OnOk result (self.new.accepted + self.new.refused
             ≡ self.old.accepted + self.old.refused + 1) }
@@ -171,8 +171,8 @@ impl Progress {
     }
 
     /// What is written after the last batch.
-    pub fn end_text(&self, alloc: Global) -> Result<Vec<u8>, Memory>
-        ensures { IfOk result (λ text. text.items ≡ end_text_of self.now) }
+    pub fn end_text(&self, alloc: Global) -> Result<Bytes, Memory>
+        ensures { IfOk result (λ text. text ≡ end_text_of self.now) }
     {
         Ok(end_lines(alloc, self.ranked.total(), self.accepted, self.refused)?)
     }

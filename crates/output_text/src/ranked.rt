@@ -5,7 +5,7 @@ ghost use Rattle.rank_rows.specs.Rank.{rank_limits, answer as answer_of, total a
 ghost use Rattle.output_text.specs.Run.{open_text as open_text_of, accepted_text};
 
 use crate::lines::{BatchNumbers, accepted_lines, open_lines};
-use bolt_base::{GraphData, Memory};
+use bolt_base::{Bytes, GraphData, Memory};
 use plain_graph::{edge_count, net_added, net_removed};
 use rank_rows::{answer, total};
 use std::alloc::Global;
@@ -58,8 +58,8 @@ impl Ranked {
     }
 
     /// The opening lines.
-    pub fn open_text(&self, alloc: Global) -> Result<Vec<u8>, Memory>
-        ensures { IfOk result (λ text. text.items ≡ open_text_of self.now) }
+    pub fn open_text(&self, alloc: Global) -> Result<Bytes, Memory>
+        ensures { IfOk result (λ text. text ≡ open_text_of self.now) }
     {
         let vertices = self.graph.attrs().len() as u64;
         let edges = edge_count(&self.graph) as u64;
@@ -72,8 +72,8 @@ impl Ranked {
         alloc: Global,
         number: u64,
         before: &Ranked,
-    ) -> Result<Vec<u8>, Memory>
-        ensures { IfOk result (λ text. text.items ≡ accepted_text number before.now self.now) }
+    ) -> Result<Bytes, Memory>
+        ensures { IfOk result (λ text. text ≡ accepted_text number before.now self.now) }
     {
         let batch = BatchNumbers {
             number,

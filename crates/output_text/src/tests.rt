@@ -90,24 +90,17 @@ fn batches_make_their_texts(rt: HostRuntime) -> Result<(), Fail> {
 }
 
 #[test]
-fn each_cause_has_its_word(rt: HostRuntime) -> Result<(), Fail> {
+fn refusals_have_their_texts(rt: HostRuntime) -> Result<(), Fail> {
     let alloc = rt.alloc();
-    let cases: [(LineCause, &[u8]); 10] = [
-        (LineCause::Syntax, b"graph refused line 3 syntax\n"),
-        (LineCause::Vertex, b"graph refused line 3 vertex\n"),
-        (LineCause::Weight, b"graph refused line 3 weight\n"),
-        (LineCause::Attribute, b"graph refused line 3 attribute\n"),
-        (LineCause::Present, b"graph refused line 3 present\n"),
-        (LineCause::Absent, b"graph refused line 3 absent\n"),
-        (LineCause::Degree, b"graph refused line 3 degree\n"),
-        (LineCause::Edges, b"graph refused line 3 edges\n"),
-        (LineCause::Size, b"graph refused line 3 size\n"),
-        (LineCause::Unfinished, b"graph refused line 3 unfinished\n"),
-    ];
-    for (cause, wanted) in cases {
-        let text = graph_refused(alloc, &BadLine { line: 3, cause })?;
-        assert_eq!(rt; text.as_slice(), wanted);
-    }
+    let bad = BadLine {
+        line: 3,
+        cause: LineCause::Unfinished,
+    };
+    let text = graph_refused(alloc, &bad)?;
+    assert_eq!(rt;
+        text.as_slice(),
+        b"graph refused line 3 unfinished\n".as_slice()
+    );
     let text = words_refused(alloc, 3)?;
     assert_eq!(rt; text.as_slice(), b"words refused at 3\n".as_slice());
     Ok(())

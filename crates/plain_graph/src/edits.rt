@@ -7,7 +7,6 @@ ghost use Rattle.bolt_base.specs.Edits.{one, edited};
 ghost use Rattle.plain_graph.specs.Made.{made};
 
 use crate::causes::cause_of;
-use crate::lists::list_of;
 use bolt_base::{AttrList, Edge, EdgeList, Edit, GraphData, Limits, LineCause, Memory};
 use std::alloc::Global;
 
@@ -89,8 +88,8 @@ pub fn apply(
     ensures good { IsGood limits.now graph.now
         → IfOk result (λ r. IfOk r (λ g. IsGood limits.now g)) }
 {
-    let mut attrs = list_of(alloc, graph.attrs())?;
-    let mut edges = list_of(alloc, graph.edges())?;
+    let mut attrs = AttrList::from_slice(alloc, graph.attrs())?;
+    let mut edges = EdgeList::from_slice(alloc, graph.edges())?;
     for (index, edit) in edits.iter().enumerate() {
         if let Some(cause) = make(alloc, limits, &mut attrs, &mut edges, edit)? {
             return Ok(Err(BadEdit { index, cause }));

@@ -3,7 +3,6 @@
 
 mod causes;
 mod edits;
-mod lists;
 mod net;
 mod scans;
 

@@ -110,7 +110,8 @@ fn ends(expr: &Expr, scope: &Scope) -> (i128, i128)
     requires few { nodes (tree_of expr.now) ≤ 256 }
     requires unbroken { first_in scope.now.entries.now scope.now.part 0 (tree_of expr.now) ≡ None }
     ensures low { result.0 ≡ (box_in scope.now.entries.now scope.now.part (tree_of expr.now)).low }
-    ensures high { result.1 ≡ (box_in scope.now.entries.now scope.now.part (tree_of expr.now)).high }
+    ensures high { result.1
+        ≡ (box_in scope.now.entries.now scope.now.part (tree_of expr.now)).high }
 {
     match walk(expr, scope, 0) {
         Ok(walked) => (walked.span.low(), walked.span.high()),

@@ -17,7 +17,8 @@ use vertex_expr::{Part, Program, ProgramEntries};
 pub fn check(alloc: Global, program: Program) -> Result<Accepted, RangeRefusal>
     ensures program { IfOk result (λ accepted. accepted ≡ program) }
     ensures unbroken { IfOk result (λ _. first_break program ≡ None) }
-    ensures broken { IfErr result (λ r. (r ≡ RangeRefusal.Memory) ⊎ (first_break program ≡ Some r)) }
+    ensures broken { IfErr result
+        (λ r. (r ≡ RangeRefusal.Memory) ⊎ (first_break program ≡ Some r)) }
 {
     let aggregates = check_entries(alloc, program.entries())?;
     Ok(Accepted::new(program, aggregates))
@@ -28,7 +29,8 @@ fn check_entries(alloc: Global, entries: &ProgramEntries) -> Result<IntervalList
     requires writable { IsWritable entries.now }
     ensures aggregates { IfOk result (λ spans. spans ≡ aggregated entries.now) }
     ensures unbroken { IfOk result (λ _. first_break entries.now ≡ None) }
-    ensures broken { IfErr result (λ r. (r ≡ RangeRefusal.Memory) ⊎ (first_break entries.now ≡ Some r)) }
+    ensures broken { IfErr result (λ r. (r ≡ RangeRefusal.Memory) ⊎
+        (first_break entries.now ≡ Some r)) }
 {
     let ranges = entries.ranges.as_slice();
     let init = Scope {

@@ -24,9 +24,11 @@ pub fn intervals(alloc: Global, exprs: &[Expr], scope: &Scope) -> Result<Interva
     requires few { length (numbered (map tree_of exprs.now)) ≤ 2048 }
     ensures intervals { let box = box_in scope.now.entries.now scope.now.part in
         IfOk result (λ spans. spans ≡ map box (map tree_of exprs.now)) }
-    ensures unbroken { let first = first_node scope.now.entries.now scope.now.part 0 (map tree_of exprs.now) in
+    ensures unbroken { let first = first_node scope.now.entries.now scope.now.part 0
+        (map tree_of exprs.now) in
         IfOk result (λ _. first ≡ None) }
-    ensures broken { let first = first_node scope.now.entries.now scope.now.part 0 (map tree_of exprs.now) in
+    ensures broken { let first = first_node scope.now.entries.now scope.now.part 0
+        (map tree_of exprs.now) in
         IfErr result (λ r. (r ≡ RangeRefusal.Memory) ⊎ (first ≡ Some r)) }
 {
     let mut spans = IntervalList::new(alloc);
@@ -74,7 +76,8 @@ pub fn aggregates(
 ) -> Result<IntervalList, RangeRefusal>
     requires few { length contributions.now ≤ 8 }
     requires degree { degree ≤ 1000000 }
-    ensures aggregates { IfOk result (λ spans. spans ≡ aggregates_of combine degree contributions.now) }
+    ensures aggregates { IfOk result
+        (λ spans. spans ≡ aggregates_of combine degree contributions.now) }
     ensures unbroken { let aggregates = aggregates_of combine degree contributions.now in
         IfOk result (λ _. first_sum 0 contributions.now aggregates ≡ None) }
     ensures broken { let aggregates = aggregates_of combine degree contributions.now in

@@ -6,7 +6,7 @@ use crate::accepted::bounds;
 use crate::checking::check;
 use crate::refusal::RangeRefusal;
 use rank::rank_program;
-use samples::{base, literal, product, quotient};
+use samples::{base, literal, quotient};
 use std::test::Fail;
 use vertex_expr::{Expr, Part};
 
@@ -66,22 +66,6 @@ fn values_stay_in_range(rt: HostRuntime) -> Result<(), Fail> {
         hi: i64::MIN.into(),
     };
     assert_eq!(rt; refusal, Some(value));
-    Ok(())
-}
-
-#[test]
-fn products_are_narrow(rt: HostRuntime) -> Result<(), Fail> {
-    let alloc = rt.alloc();
-    let wide = product(alloc, literal(1 << 61), literal(1 << 60))?;
-    let refusal = check(alloc, base(alloc, 1, 0, 100, wide, Expr::Agg(0))?).err();
-    let expected = RangeRefusal::Wide {
-        part: Part::Contribute,
-        node: 2,
-    };
-    assert_eq!(rt; refusal, Some(expected));
-    let narrow = product(alloc, literal(1 << 60), literal(1 << 60))?;
-    let refusal = check(alloc, base(alloc, 1, 0, 100, narrow, Expr::Agg(0))?).err();
-    assert_eq!(rt; refusal, Some(RangeRefusal::Sum { lane: 0 }));
     Ok(())
 }
 

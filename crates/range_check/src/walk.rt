@@ -106,7 +106,8 @@ fn walk_two(a: &Operand, b: &Operand, scope: &Scope, first: u32) -> Result<Walke
         let left = first_in p part first a.now in
         let right = first_in p part (first + nodes a.now) b.now in
         let next = first + nodes a.now + nodes b.now in
-        result ≡ two_result (option_or left right) (box_in p part a.now) (box_in p part b.now) next }
+        result ≡ two_result (option_or left right)
+        (box_in p part a.now) (box_in p part b.now) next }
 {
     let left = walk(a.get(), scope, first)?;
     let right = walk(b.get(), scope, left.next)?;

@@ -13,4 +13,5 @@ row-more g i = rw add-one refl
 pub length-row : (g : Graph) (i : ℕ) → length (row g i) ≡ vertices g
 unfolding row
 length-row g zero = length-replicate (vertices g) (pos 1000000)
-length-row g (suc i) = length-map-range_with_len (λ v. value (aggregate g (row g i) v)) 0 (vertices g)
+length-row g (suc i) = length-map-range_with_len (λ v. value (aggregate g (row g i) v)) 0
+    (vertices g)

@@ -1,5 +1,7 @@
--- PageRank in fixed point: the values of the vertices after each of its synchronous rounds. The number 1,000,000 stands for 1.
-use Rattle.std.specs.Prelude.{ℕ, zero, suc, ℤ, pos, negsuc, ◌+ℤ◌, ◌*ℤ◌, List, map, fold, replicate, slice_index_or}
+-- PageRank in fixed point: the values of the vertices after each of its synchronous rounds. The
+-- number 1,000,000 stands for 1.
+use Rattle.std.specs.Prelude.{ℕ, zero, suc, ℤ, pos, negsuc, ◌+ℤ◌, ◌*ℤ◌, List, map, fold, replicate}
+use Rattle.std.specs.Prelude.{slice_index_or}
 use Rattle.std.specs.Int.{int_div_euclid, int_min, int_max}
 use Rattle.std.specs.List.{range_with_len}
 use Rattle.bolt_base.specs.Graph.{Graph, vertices, outdeg, in_edges, IsBetween}
@@ -8,10 +10,19 @@ use Rattle.bolt_base.specs.declared.limits.Limits.{Limits}
 
 -- the graphs that are ranked
 abbrev pub rank_limits : Limits
-rank_limits = record { vertices = 1000000; degree = 1000000; edges = 8000000; weight_lo = negsuc 999999; weight_hi = pos 1000000; attr_lo = negsuc 999999; attr_hi = pos 1000000 }
+rank_limits = record {
+  vertices = 1000000;
+  degree = 1000000;
+  edges = 8000000;
+  weight_lo = negsuc 999999;
+  weight_hi = pos 1000000;
+  attr_lo = negsuc 999999;
+  attr_hi = pos 1000000;
+}
 
--- what an edge gives: its source's value in as many equal parts as the source has out-edges, rounded down (the number of parts is
--- positive, since the edge itself is one of them, and so `int_div_euclid` rounds down)
+-- what an edge gives: its source's value in as many equal parts as the source has out-edges,
+-- rounded down (the number of parts is positive, since the edge itself is one of them, and so
+-- `int_div_euclid` rounds down)
 abbrev pub share : Graph → List ℤ → Edge → ℤ
 share g row e = int_div_euclid (slice_index_or row e.src (pos 0)) (pos (outdeg g e.src))
 
@@ -25,7 +36,8 @@ IsValue x = IsBetween (pos 0) (pos 1000000000000) x
 
 -- 15% of 1 and 85% of the aggregate, rounded down, from 0 to a million times 1
 abbrev pub value : ℤ → ℤ
-value a = int_max (int_min (pos 150000 +ℤ int_div_euclid (a *ℤ pos 17) (pos 20)) (pos 1000000000000)) (pos 0)
+value a = int_max (int_min (pos 150000 +ℤ int_div_euclid (a *ℤ pos 17) (pos 20))
+    (pos 1000000000000)) (pos 0)
 
 -- the out-degrees of all vertices
 abbrev pub degrees : Graph → List ℤ

@@ -28,7 +28,7 @@ use Rattle.run_model.specs.Program.{zeros}
 use Rattle.run_model.specs.Rows.{aggr, applied, at, begun, entries, entry, row, rows_to}
 use Rattle.run_model.proofs.Iteration.{row_is}
 use Rattle.run_model.proofs.RefinedRows.{entry_is_again, refinement_grows, refinement_leads_on}
-use Rattle.run_model.proofs.RowLemmas.{begins as rows_begin}
+use Rattle.run_model.proofs.RowLemmas.{row_begins}
 use Rattle.agg_history.specs.Pruned.{HistoryState, rows_of}
 use Rattle.agg_history.specs.Puts.{PutTable, Round, IsPutMore, put_at, round_at, with_put}
 use Rattle.agg_history.proofs.PutLemmas.{laid_new}
@@ -164,7 +164,7 @@ module _ (p : ProgramEntries) (g h : Graph) (over : AreOver p g h) where
   pub first_made : (v : ℕ) → v < vertices h → (agg val : List ℤ) → agg ≡ zeros p → val ≡ begun p h v
       → (agg, val) ≡ entry p h 0 v
   first_made v there agg val a e =
-      let first = rows_begin p h v there in
+      let first = row_begins p h v there in
       λ j. ((a ∙ sym first.aggregate) j, (e ∙ sym first.value) j)
 
 -- ---- one more iteration

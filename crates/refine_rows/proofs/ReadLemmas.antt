@@ -17,7 +17,7 @@ use Rattle.run_model.specs.Program.{lanes, by_lane, number}
 use Rattle.run_model.specs.Refined.{is_again, laid, laid_values, row_values, IsRefined}
 use Rattle.run_model.specs.Rows.{Lists, at, aggr, row, entry, entries, rows_to}
 use Rattle.run_model.specs.Steps.{is_target, value_changed, attr_changed, step}
-use Rattle.run_model.proofs.ByLane.{IsSoFar, finished}
+use Rattle.run_model.proofs.ByLane.{IsSoFar, by_lane_at_end}
 use Rattle.run_model.proofs.Iteration.{new_is}
 use Rattle.run_model.proofs.RefinedRows.{row_entry, laid_is}
 use Rattle.run_model.proofs.RowLemmas.{values_whole, aggregates_whole}
@@ -84,7 +84,7 @@ agg_long p g i v there = let w = aggregates_whole p g i in
 -- a loop over all lanes has copied a list of so many numbers
 pub copied : (p : ProgramEntries) (k : ℕ) (xs ys : List ℤ) → length ys ≡ lanes p
     → IsSoFar (number ys) (lanes p) k xs → lanes p ≤ k → xs ≡ ys
-copied p k xs ys long so past = finished p (number ys) k xs so past
+copied p k xs ys long so past = by_lane_at_end p (number ys) k xs so past
     ∙ sym (fill_by_all (number ys) ys (lanes p) (pos 0) long (λ l small. refl))
 
 pub copied_value : (p : ProgramEntries) (g : Graph) (i v k : ℕ) (xs : List ℤ) → v < vertices g

@@ -1,5 +1,5 @@
 -- Laws of rows that are refined, iteration after iteration.
-use Rattle.std.specs.Prelude.{◌≡◌, ℕ, ◌+◌, ◌-◌, ◌<◌, ◌≤◌, List, Some, None}
+use Rattle.std.specs.Prelude.{◌≡◌, ℕ, ◌+◌, ◌-◌, ◌<◌, ◌≤◌, Some, None}
 use Rattle.bolt_base.specs.Graph.{Graph, IsGood, vertices}
 use Rattle.bolt_base.specs.Keep.{Entry}
 use Rattle.bolt_base.specs.RowTable.{entry_at}

@@ -36,8 +36,10 @@ pub put_all_made : {X : Type 0} (f : ℕ → X) (d : X) (vs : List ℕ) (xs : Li
     → length xs ≡ n
     → ((v : ℕ) → v < n → list_any (λ u. eqb v u) vs ≡ false → get_or xs v d ≡ f v)
     → put_all (placed f vs) xs ≡ map f (range_with_len 0 n)
-put_all_made f d vs xs n long others = fill_by_all f (put_all (placed f vs) xs) n d (length-put_all (placed f vs) xs ∙ long)
-    (λ v h. put_all_at f d (placed f vs) (all_placed f vs) xs v (omega arith) (elim (cases_Bool (list_any (λ u. eqb v u) vs)) [
+put_all_made f d vs xs n long others = fill_by_all f (put_all (placed f vs) xs) n d
+    (length-put_all (placed f vs) xs ∙ long)
+    (λ v h. put_all_at f d (placed f vs) (all_placed f vs) xs v (omega arith)
+    (elim (cases_Bool (list_any (λ u. eqb v u) vs)) [
       | inl some ↦ inr (has_place_of f vs v some)
       | inr none ↦ inl (others v h none)
     ]))
@@ -47,7 +49,8 @@ pub get_or-blanks : {X : Type 0} (xs : List X) (k v : ℕ) (d : X)
     → get_or (xs ++ replicate k d) v d ≡ get_or xs v d
 get_or-blanks xs k v d = elim (cases_lt v (length xs)) [
   | inl l ↦ get_or_append_left xs (replicate k d) d v l
-  | inr l ↦ get_or-append_right xs (replicate k d) (length xs) v d refl l ∙ blank k (v - length xs) ∙ sym (get_or_past xs v d l)
+  | inr l ↦ get_or-append_right xs (replicate k d) (length xs) v d refl l ∙ blank k (v - length xs)
+      ∙ sym (get_or_past xs v d l)
 ]
   where
     blank : (k i : ℕ) → get_or (replicate k d) i d ≡ d
@@ -57,11 +60,13 @@ get_or-blanks xs k v d = elim (cases_lt v (length xs)) [
 
 sum-blanks : {X : Type 0} (g : X → ℕ) (d : X) → g d ≡ 0 → (k : ℕ) → sum_by g (replicate k d) ≡ 0
 sum-blanks g d e zero = refl
-sum-blanks g d e (suc k) = sum_by-cons g d (replicate k d) ∙ (let r = sum-blanks g d e k in omega arith)
+sum-blanks g d e (suc k) = sum_by-cons g d (replicate k d)
+    ∙ (let r = sum-blanks g d e k in omega arith)
 
 pub sum_with_blanks : {X : Type 0} (g : X → ℕ) (d : X) → g d ≡ 0 → (xs : List X) (k : ℕ)
     → sum_by g (xs ++ replicate k d) ≡ sum_by g xs
-sum_with_blanks g d e xs k = sum_by-append g xs (replicate k d) ∙ (let r = sum-blanks g d e k in omega arith)
+sum_with_blanks g d e xs k = sum_by-append g xs (replicate k d)
+    ∙ (let r = sum-blanks g d e k in omega arith)
 
 -- ---- sums: what comes in goes out elsewhere
 other_sums : {X : Type 0} (g : X → ℕ) (d : X) (vs : List ℕ) (v : ℕ) (xs : List X) (x : X)
@@ -70,24 +75,37 @@ other_sums : {X : Type 0} (g : X → ℕ) (d : X) (vs : List ℕ) (v : ℕ) (xs 
 other_sums g d [] v xs x apart = refl
 other_sums g d (u ∷ vs) v xs x apart =
     sum_by-cons (λ w. g (get_or (set xs v x) w d)) u vs
-    ∙ (λ i. g (get_or-set_other xs v u x d (apart 0 (omega arith)) i) + other_sums g d vs v xs x (λ j l. apart (suc j) (omega arith)) i)
+    ∙ (λ i. g (get_or-set_other xs v u x d (apart 0 (omega arith)) i) + other_sums g d vs v xs x
+    (λ j l. apart (suc j) (omega arith)) i)
     ∙ sym (sum_by-cons (λ w. g (get_or xs w d)) u vs)
 
 -- the sum over the list with the items, and over what stood at their places, is that over the list
 -- and the items
 pub sum_put : {X : Type 0} (g : X → ℕ) (f : ℕ → X) (d : X) (vs : List ℕ) (xs : List X)
     → All (λ v. v < length xs) vs → IsDistinct eqb vs
-    → sum_by g (put_all (placed f vs) xs) + sum_by (λ v. g (get_or xs v d)) vs ≡ sum_by g xs + sum_by (λ v. g (f v)) vs
+    → sum_by g (put_all (placed f vs) xs) + sum_by (λ v. g (get_or xs v d)) vs
+    ≡ sum_by g xs + sum_by (λ v. g (f v)) vs
 sum_put g f d [] xs inside distinct = refl
 sum_put {X} g f d (v ∷ vs) xs inside distinct =
     let below : v < length xs = All-head (λ (u : ℕ). u < length xs) v vs inside in
     let tail : All (λ u. u < length (set xs v (f v))) vs =
-    λ i e l. (let h : get_or vs i e < length xs = All-tail (λ (u : ℕ). u < length xs) v vs inside i e l in omega (arith, length-set xs v (f v))) in
-    let apart_all = All-from_recursion (λ (u : ℕ). eqb v u ≡ false) vs (IsDistinct-head eqb v vs distinct) in
-    let apart : (i : ℕ) → i < length vs → get_or vs i 0 ≢ v = λ i l e. eqb-false v (get_or vs i 0) (apart_all i 0 l) (sym e) in
+    λ i e l. (let h : get_or vs i e < length xs = All-tail (λ (u : ℕ). u < length xs) v vs inside i
+    e l in omega (arith, length-set xs v (f v))) in
+    let apart_all = All-from_recursion (λ (u : ℕ). eqb v u ≡ false) vs
+    (IsDistinct-head eqb v vs distinct) in
+    let apart : (i : ℕ) → i < length vs
+    → get_or vs i 0 ≢ v = λ i l e. eqb-false v (get_or vs i 0) (apart_all i 0 l) (sym e) in
     let more = sum_put g f d vs (set xs v (f v)) tail (IsDistinct-tail eqb v vs distinct) in
     let one = sum_by-set g xs v (f v) d below in
-    omega (arith, more, one, other_sums g d vs v xs (f v) apart, sum_by-cons (λ u. g (get_or xs u d)) v vs, sum_by-cons (λ u. g (f u)) v vs)
+    omega (
+      arith,
+      more,
+      one,
+      other_sums g d vs v xs (f v) apart,
+      sum_by-cons
+          (λ u. g (get_or xs u d)) v vs,
+      sum_by-cons (λ u. g (f u)) v vs,
+    )
 
 -- what holds of the items and of the list holds of the list with the items
 pub All-put_all : {X : Type 0} (P : X → Type 0) (items : List (ℕ × X)) (xs : List X)
@@ -95,4 +113,5 @@ pub All-put_all : {X : Type 0} (P : X → Type 0) (items : List (ℕ × X)) (xs 
 All-put_all P [] xs new old = old
 All-put_all {X} P (item ∷ items) xs new old =
     let Q : ℕ × X → Type 0 = λ x. P x.1 in
-    All-put_all P items (set xs item.0 item.1) (All-tail Q item items new) (All-set P xs item.0 item.1 (All-head Q item items new) old)
+    All-put_all P items (set xs item.0 item.1) (All-tail Q item items new)
+    (All-set P xs item.0 item.1 (All-head Q item items new) old)

@@ -12,7 +12,7 @@ use Rattle.vertex_expr.specs.declared.program.ProgramEntries.{ProgramEntries}
 use Rattle.range_check.specs.Gathered.{empty_of, with_one}
 use Rattle.run_model.specs.Program.{lanes, by_lane, number}
 use Rattle.run_model.specs.Rows.{Lists, contribution, gathered_over, gathered}
-use Rattle.run_model.proofs.InRange.{IsFine, fine, at_lane, length-by_lane, gathered_over_is, no_edge}
+use Rattle.run_model.proofs.InRange.{IsFine, edges_fine, at_lane, length-by_lane, gathered_over_is, no_edge}
 use Rattle.run_model.proofs.Listed.{same_lanes}
 use Rattle.run_model.specs.Given.{IsBefore, IsEdge, edge_gives}
 
@@ -27,7 +27,7 @@ none_so_far p g vals v = refl
 module _ (p : ProgramEntries) (g : Graph) (vals : Lists) (before : IsBefore p g vals) (v : ℕ) where
   all_fine : All (IsFine p g before.safe before.good) (in_edges g v)
   all_fine = All-filter (λ e. e.dst == v) (IsFine p g before.safe before.good) (edges g)
-      (fine p g before.safe before.good)
+      (edges_fine p g before.safe before.good)
 
   pub all_so_far : (k : ℕ) → indeg g v ≤ k → so_far p g vals v k ≡ gathered p g vals v
   all_so_far k past = ap (λ es. by_lane p (gathered_over p (contribution p g vals) es))

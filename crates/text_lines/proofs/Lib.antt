@@ -1,5 +1,3 @@
 pub mod LineLemmas
-pub mod WordLemmas
-pub mod NumberLemmas
 pub mod FeedLemmas
 pub mod ReadingLemmas

@@ -1,13 +1,16 @@
 -- What a feed of lines stands for.
-use Rattle.std.specs.Prelude.{◌≡◌, ◌⊎◌, ℕ, ◌+◌, ◌-◌, ◌<◌, ◌≤◌, false, List, [], ◌∷◌, ◌++◌, length, take, drop, slice_index, Option, IfSome}
+use Rattle.std.specs.Prelude.{◌≡◌, ◌⊎◌, ℕ, ◌+◌, ◌-◌, ◌<◌, ◌≤◌, false, List, [], ◌∷◌, ◌++◌, length}
+use Rattle.std.specs.Prelude.{take, drop, slice_index, Option, IfSome}
 use Rattle.std.specs.Option.{option_map}
 use Rattle.std.specs.List.{All}
 use Rattle.bolt_io.specs.Told.{Told, left, taken_from}
 use Rattle.bolt_io.specs.declared.whole.TheConstants.{MOST_BYTES}
-use Rattle.text_lines.specs.Lines.{is_lf, without_cr, seen_lines, seen_ended_lines, after_lines}
+use Rattle.lexical.specs.Bytes.{is_line_feed, without_carriage_return}
+use Rattle.text_lines.specs.Lines.{seen_lines, seen_ended_lines, after_lines}
 use Rattle.text_lines.specs.declared.line_feed.TheConstants.{BLOCK_BYTES}
 
--- a slot, the bytes that were taken from it and not yet answered, how many lines were answered and how many bytes taken
+-- a slot, the bytes that were taken from it and not yet answered, how many lines were answered and
+-- how many bytes taken
 pub record Feed : Type 0 where
   pub slot : ℕ
   pub pending : List ℕ
@@ -33,7 +36,8 @@ rest = rest_within MOST_BYTES
 abbrev pub ahead : Option Told → Feed → Option (List (Option (List ℕ)))
 ahead told feed = option_map (λ t. seen_lines (rest t feed)) told
 
--- the lines that an LF ends in the first `most` bytes that a feed takes, and that are not yet answered
+-- the lines that an LF ends in the first `most` bytes that a feed takes, and that are not yet
+-- answered
 abbrev pub ended_within : ℕ → Option Told → Feed → Option (List (Option (List ℕ)))
 ended_within most told feed = option_map (λ t. seen_ended_lines (rest_within most t feed)) told
 
@@ -44,11 +48,13 @@ ended_ahead = ended_within MOST_BYTES
 abbrev pub bytes_after : ℕ → Option Told → Feed → Option (List ℕ)
 bytes_after n told feed = option_map (λ t. after_lines n (rest t feed)) told
 
--- the slot has as many bytes as are taken at most: once they are taken, another read is needed to see its end
+-- the slot has as many bytes as are taken at most: once they are taken, another read is needed to
+-- see its end
 abbrev pub MeetsLimit : Feed → Told → Type 0
 MeetsLimit feed t = MOST_BYTES ≤ feed.taken + length (left t feed.slot)
 
--- the next line isn't to be had: no LF ends it in the bytes that are taken at most, and the slot may have more
+-- the next line isn't to be had: no LF ends it in the bytes that are taken at most, and the slot
+-- may have more
 pub record IsStuck (feed : Feed) (t : Told) : Type 0 where
   pub limit : MeetsLimit feed t
   pub none : seen_ended_lines (rest t feed) ≡ []
@@ -59,7 +65,7 @@ IsAtEnd told feed = (feed.pending ≡ []) × IfSome told (λ t. left t feed.slot
 
 -- no line ends in the bytes that are not yet answered
 abbrev pub NeedsMore : Feed → Type 0
-NeedsMore feed = All (λ b. is_lf b ≡ false) feed.pending
+NeedsMore feed = All (λ b. is_line_feed b ≡ false) feed.pending
 
 -- this many bytes more were taken from a slot, no more than it had, and nothing else changed
 pub record Advances (old new : Option Told) (slot n : ℕ) : Type 0 where
@@ -75,9 +81,9 @@ pub record EndsLine (bytes : List ℕ) (len whole : ℕ) : Type 0 where
   pub some : 0 < whole
   pub within : whole ≤ length bytes
   pub inside : len ≤ whole
-  pub none_before : All (λ b. is_lf b ≡ false) (take (whole - 1) bytes)
+  pub none_before : All (λ b. is_line_feed b ≡ false) (take (whole - 1) bytes)
   pub here : slice_index bytes (whole - 1) ≡ 10
-  pub line : take len bytes ≡ without_cr (take (whole - 1) bytes)
+  pub line : take len bytes ≡ without_carriage_return (take (whole - 1) bytes)
 
 -- the bytes not yet answered are the last line of the slot, which has no end
 pub record IsLastLine (told : Option Told) (feed : Feed) (len whole : ℕ) : Type 0 where
@@ -88,7 +94,8 @@ pub record IsLastLine (told : Option Told) (feed : Feed) (len whole : ℕ) : Typ
   pub fewer : feed.taken < MOST_BYTES
   pub ended : IfSome told (λ t. left t feed.slot ≡ [])
 
--- the first `len` of the bytes not yet answered are the next line, and `whole` of them are it with its end
+-- the first `len` of the bytes not yet answered are the next line, and `whole` of them are it with
+-- its end
 abbrev pub IsFront : Option Told → Feed → ℕ → ℕ → Type 0
 IsFront told feed len whole = EndsLine feed.pending len whole ⊎ IsLastLine told feed len whole
 

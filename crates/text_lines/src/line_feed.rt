@@ -1,20 +1,25 @@
 // A feed of lines over a slot of a shelf.
-ghost use Rattle.std.specs.Prelude.{◌≡◌, ℕ, ◌+◌, ◌-◌, ◌<◌, ◌≤◌, suc, [], ◌∷◌, ◌++◌, List, Option, Some, None, Err, length, take, drop, slice_range, IfOk, IfErr, OnOk, OnErr, IsOk, IfSome, IfNone, MatchOption, vec_len};
-ghost use Rattle.std.specs.List.{prefix_len};
+ghost use Rattle.std.specs.Prelude.{◌≡◌, ℕ, ◌+◌, ◌-◌, ◌<◌, ◌≤◌, suc, [], ◌∷◌, ◌++◌, List, Option};
+ghost use Rattle.std.specs.Prelude.{Some, None, Err, length, take, drop, slice_range, IfOk, IfErr};
+ghost use Rattle.std.specs.Prelude.{OnOk, OnErr, IsOk, IfSome, IfNone, MatchOption, vec_len};
 ghost use Rattle.std.specs.Option.{option_map};
 ghost use Rattle.std.specs.Result.{result_err};
 ghost use Rattle.bolt_io.specs.declared.whole.TheConstants.{MOST_BYTES};
 ghost use Rattle.bolt_io.specs.Faults.{Rose};
 ghost use Rattle.bolt_io.specs.Told.{left};
 ghost use Rattle.text_lines.specs.declared.line_feed.TheConstants.{BLOCK_BYTES, KEPT_BYTES};
-ghost use Rattle.text_lines.specs.Lines.{is_no_lf, without_cr, seen};
-ghost use Rattle.text_lines.specs.Feed.{Feed, fresh_feed, ahead, ended_ahead, ended_within, bytes_after, IsStuck, IsAtEnd, MeetsLimit, NeedsMore, IsFront, EndsLine, answered, ReadsOn};
+ghost use Rattle.lexical.specs.Bytes.{without_carriage_return as without_carriage_return_of};
+ghost use Rattle.text_lines.specs.Lines.{seen};
+ghost use Rattle.text_lines.specs.Feed.{Feed, fresh_feed, ahead, ended_ahead, ended_within};
+ghost use Rattle.text_lines.specs.Feed.{bytes_after, IsStuck, IsAtEnd, MeetsLimit, NeedsMore};
+ghost use Rattle.text_lines.specs.Feed.{IsFront, EndsLine, answered, ReadsOn};
 ghost use Rattle.text_lines.specs.Reading.{IfTurns, IsSpent, ReadsSlot, FeedReads};
 ghost use Rattle.text_lines.specs.Answers.{answered_line, number_of};
 
 use crate::feed::{FeedError, Line};
 use bolt_base::Bytes;
 use bolt_io::{MOST_BYTES, Shelf, ShelfFault};
+use lexical::{line_feed_at, without_carriage_return};
 use std::alloc::{AllocError, Global};
 use std::marker::Model;
 
@@ -24,7 +29,8 @@ pub const MOST_LINE_BYTES: usize = 255;
 /// How many bytes a read asks for at most, and a feed holds at most.
 pub const BLOCK_BYTES: usize = 65_536;
 
-/// How many bytes of a line that has no end yet are kept: so many are a long line, whatever follows them.
+/// How many bytes of a line that has no end yet are kept: so many are a long line, whatever follows
+/// them.
 const KEPT_BYTES: usize = 257;
 
 /// The line in front of a feed: how many bytes it has, and how many with its end.
@@ -52,12 +58,18 @@ impl Model for LineFeed {
 
     ghost Value = { Feed };
 
-    ghost view = { λ f. record { slot = f.slot; pending = slice_range f.block.items f.at f.end; lines = f.lines; taken = f.taken } };
+    ghost view = { λ f. record {
+      slot = f.slot;
+      pending = slice_range f.block.items f.at f.end;
+      lines = f.lines;
+      taken = f.taken;
+    } };
 
     ghost invariant = { λ f. IsKept f.at f.end (length f.block.items) f.lines f.taken };
 }
 
-/// Moves a line that has no end yet to the front, as far as it counts, and answers how many bytes that are.
+/// Moves a line that has no end yet to the front, as far as it counts, and answers how many bytes
+/// that are.
 fn move_front(block: &mut [u8], at: usize, end: usize) -> usize
     requires begins { at ≤ end }
     requires within { end ≤ length block.old }
@@ -114,24 +126,12 @@ fn grow_block(block: &mut Vec<u8>, kept: usize) -> Result<(), AllocError>
     Ok(())
 }
 
-/// How many bytes stand before the first LF.
-fn line_end(text: &[u8]) -> usize
-    ensures value { result ≡ prefix_len is_no_lf text.now }
-    ensures within { result ≤ length text.now }
-{
-    text.iter().take_while(|b| !(**b == b'\n')).count()
-}
-
 /// How many bytes a line has that an LF ends.
 fn line_len(line: &[u8]) -> usize
-    ensures line { take result line.now ≡ without_cr line.now }
+    ensures line { take result line.now ≡ without_carriage_return_of line.now }
     ensures within { result ≤ length line.now }
 {
-    if !line.is_empty() && line[line.len() - 1] == b'\r' {
-        line.len() - 1
-    } else {
-        line.len()
-    }
+    without_carriage_return(line).len()
 }
 
 impl LineFeed {
@@ -162,13 +162,14 @@ impl LineFeed {
 
     // The line in front, where its end was taken.
     fn ended_line(&self) -> Option<FrontLine>
-        ensures line { MatchOption result (NeedsMore self.now) (λ f. EndsLine self.now.pending f.len f.whole) }
+        ensures line { MatchOption result (NeedsMore self.now)
+            (λ f. EndsLine self.now.pending f.len f.whole) }
         ensures most { self.now.taken ≤ MOST_BYTES }
         ensures counted { self.now.lines + length self.now.pending ≤ self.now.taken }
         ensures held { length self.now.pending ≤ BLOCK_BYTES }
     {
         let front = &self.block[self.at..self.end];
-        let end = line_end(front);
+        let end = line_feed_at(front);
         if end == front.len() {
             return None;
         }
@@ -199,14 +200,18 @@ impl LineFeed {
             self.old.slot self.old.taken self.new.taken (result_err result) }
         ensures taken { IfOk result (λ n. self.new.taken ≡ self.old.taken + n) }
         ensures bytes { IfOk result (λ n. IfSome (S.told shelf.old)
-            (λ t. self.new.pending ≡ take KEPT_BYTES self.old.pending ++ take n (left t self.old.slot))) }
-        ensures none { IfOk result (λ n. n ≡ 0 → self.new.pending ≡ take KEPT_BYTES self.old.pending) }
-        ensures at_end { IfOk result (λ n. n ≡ 0 → IfSome (S.told shelf.old) (λ t. left t self.old.slot ≡ [])) }
+            (λ t. self.new.pending ≡ take KEPT_BYTES self.old.pending
+            ++ take n (left t self.old.slot))) }
+        ensures none { IfOk result (λ n. n ≡ 0
+            → self.new.pending ≡ take KEPT_BYTES self.old.pending) }
+        ensures at_end { IfOk result
+            (λ n. n ≡ 0 → IfSome (S.told shelf.old) (λ t. left t self.old.slot ≡ [])) }
         ensures slot { self.new.slot ≡ self.old.slot }
         ensures lines { self.new.lines ≡ self.old.lines }
         ensures counted { self.new.lines + length self.new.pending ≤ self.new.taken }
         ensures held { length self.new.pending ≤ BLOCK_BYTES }
-        ensures kept { OnErr result (self.new ≡ record self.old { pending = take KEPT_BYTES self.old.pending }) }
+        ensures kept { OnErr result (self.new
+            ≡ record self.old { pending = take KEPT_BYTES self.old.pending }) }
         ensures untouched { OnErr result (S.told shelf.new ≡ S.told shelf.old) }
         ensures no_turns { IfErr result (IfTurns (λ _. ⊥)) }
     {
@@ -220,20 +225,24 @@ impl LineFeed {
         Ok(n)
     }
 
-    /// Takes bytes until the whole next line is there, and answers where it lies; None where there is no further line.
+    /// Takes bytes until the whole next line is there, and answers where it lies; None where there
+    /// is no further line.
     /// After `Shelf` or `Memory` no byte is lost, and the call may be made again.
     pub fn find<S: Shelf>(&mut self, shelf: &mut S) -> Result<Option<FrontLine>, FeedError>
         requires slot { self.old.slot < S.opened shelf.old }
         ensures line { IfOk result (λ r. MatchOption r (IsAtEnd (S.told shelf.new) self.new)
             (λ f. IsFront (S.told shelf.new) self.new f.len f.whole)) }
         ensures lines { self.new.lines ≡ self.old.lines }
-        ensures reads { FeedReads S.told S.opened S.faults shelf.old shelf.new self.old self.new (result_err result) }
+        ensures reads { FeedReads S.told S.opened S.faults shelf.old shelf.new self.old self.new
+            (result_err result) }
         ensures fewer { IfOk result (λ r. IfNone r (self.new.taken < MOST_BYTES)) }
 
-        // What is ahead stays so: the lines, those that end in the first bytes, and the bytes behind the first lines.
+        // What is ahead stays so: the lines, those that end in the first bytes, and the bytes
+        // behind the first lines.
         ensures ahead { ahead (S.told shelf.new) self.new ≡ ahead (S.told shelf.old) self.old }
         ensures ended { (most : ℕ) → self.new.taken ≤ most
-            → ended_within most (S.told shelf.new) self.new ≡ ended_within most (S.told shelf.old) self.old }
+            → ended_within most (S.told shelf.new) self.new
+            ≡ ended_within most (S.told shelf.old) self.old }
         ensures after { (n : ℕ) → bytes_after (suc n) (S.told shelf.new) self.new
             ≡ bytes_after (suc n) (S.told shelf.old) self.old }
 
@@ -279,21 +288,25 @@ impl LineFeed {
         self.lines += 1;
     }
 
-    /// The next line; None exactly at the end. After `Shelf` or `Memory` no byte is lost, and the call may be made again.
+    /// The next line; None exactly at the end. After `Shelf` or `Memory` no byte is lost, and the
+    /// call may be made again.
     pub fn next<S: Shelf>(&mut self, shelf: &mut S) -> Result<Option<Line>, FeedError>
         requires slot { self.old.slot < S.opened shelf.old }
         ensures line { IfOk result (λ r. IfSome r (λ line. ahead (S.told shelf.old) self.old
             ≡ option_map (λ rest. answered_line line ∷ rest) (ahead (S.told shelf.new) self.new))) }
-        ensures ended_line { IfOk result (λ r. IfSome r (λ line. IfSome (S.told shelf.old) (MeetsLimit self.old)
+        ensures ended_line { IfOk result
+            (λ r. IfSome r (λ line. IfSome (S.told shelf.old) (MeetsLimit self.old)
             → ended_ahead (S.told shelf.old) self.old
-            ≡ option_map (λ rest. answered_line line ∷ rest) (ended_ahead (S.told shelf.new) self.new))) }
+            ≡ option_map (λ rest. answered_line line ∷ rest)
+            (ended_ahead (S.told shelf.new) self.new))) }
         ensures number { IfOk result (λ r. IfSome r (λ line. number_of line ≡ self.new.lines)) }
         ensures one_more { IfOk result (λ r. MatchOption r (self.new.lines ≡ self.old.lines)
             (λ _. self.new.lines ≡ self.old.lines + 1)) }
         ensures end { IfOk result (λ r. IfNone r (IsAtEnd (S.told shelf.new) self.new)) }
         ensures none { IfOk result (λ r. IfNone r
             (ahead (S.told shelf.old) self.old ≡ option_map (λ _. []) (S.told shelf.old))) }
-        ensures reads { FeedReads S.told S.opened S.faults shelf.old shelf.new self.old self.new (result_err result) }
+        ensures reads { FeedReads S.told S.opened S.faults shelf.old shelf.new self.old self.new
+            (result_err result) }
         ensures fewer { IfOk result (λ r. IfNone r (self.new.taken < MOST_BYTES)) }
 
         // A line that ends in what was taken is answered without a read.
@@ -302,7 +315,8 @@ impl LineFeed {
             → ahead (S.told shelf.old) self.old ≡ Some (None ∷ rest) → IsOk result }
 
         // After an error all lines are still to come.
-        ensures kept { OnErr result (ahead (S.told shelf.new) self.new ≡ ahead (S.told shelf.old) self.old) }
+        ensures kept { OnErr result (ahead (S.told shelf.new) self.new
+            ≡ ahead (S.told shelf.old) self.old) }
         ensures kept_ended { OnErr result
             (ended_ahead (S.told shelf.new) self.new ≡ ended_ahead (S.told shelf.old) self.old) }
         ensures kept_lines { OnErr result (self.new.lines ≡ self.old.lines) }

@@ -1,25 +1,9 @@
 // Numbers as words.
-ghost use Rattle.std.specs.Prelude.{◌≡◌, ◌==◌, ◌-◌, ◌^◌, slice_index, min, Some, None, if◌then◌else◌};
-ghost use Rattle.text_lines.specs.Numbers.{is_decimal, decimal_value, vertex_word as vertex_of, positive_word, negative_word, whole_word as whole_of};
+ghost use Rattle.std.specs.Prelude.{◌≡◌, ◌==◌, slice_index};
+ghost use Rattle.text_lines.specs.Numbers.{vertex_word as vertex_of, positive_word, negative_word};
+ghost use Rattle.text_lines.specs.Numbers.{whole_word as whole_of};
 
-/// The number that one or more digits make, or the greatest `u64` where it is greater.
-fn decimal(word: &[u8]) -> Option<u64>
-    ensures { result ≡ (if is_decimal word.now then Some (min (decimal_value word.now) (2 ^ 64 - 1)) else None) }
-{
-    if word.is_empty() {
-        return None;
-    }
-    let mut number: u64 = 0;
-    for b in word {
-        if !b.is_ascii_digit() {
-            return None;
-        }
-        number = number
-            .saturating_mul(10)
-            .saturating_add(u64::from(*b - b'0'));
-    }
-    Some(number)
-}
+use lexical::decimal;
 
 /// The number of a vertex word: digits whose number is below 2^32.
 #[tactic(auto, unfolding(crate::specs::Numbers::vertex_word))]

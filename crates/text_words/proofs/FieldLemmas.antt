@@ -1,6 +1,9 @@
 -- The fields of printed lines are read again.
-use Rattle.std.proofs.Common.{◌≡◌, w64, ℕ, suc, ◌+◌, ◌^◌, ◌<◌, ◌≤◌, ◌≤ℤ◌, Bool, true, false, cond, List, [], ◌∷◌, ◌++◌, length, drop, Option, Some, None, Result, Ok, Err, refl, sym, ◌∙◌, ap, arith}
-use Rattle.std.specs.Prelude.{◌==◌, ◌&&◌, not, nat_lt, nat_le, int_le, slice_index, decimal, ℤ, pos, negsuc, neg_ℤ, FitsSigned}
+use Rattle.std.proofs.Common.{◌≡◌, w64, ℕ, suc, ◌+◌, ◌^◌, ◌<◌, ◌≤◌, ◌≤ℤ◌, Bool, true, false, cond}
+use Rattle.std.proofs.Common.{List, [], ◌∷◌, ◌++◌, length, drop, Option, Some, None, Result, Ok}
+use Rattle.std.proofs.Common.{Err, refl, sym, ◌∙◌, ap, arith}
+use Rattle.std.specs.Prelude.{◌==◌, ◌&&◌, not, nat_lt, nat_le, int_le, slice_index, decimal, ℤ, pos}
+use Rattle.std.specs.Prelude.{negsuc, neg_ℤ, FitsSigned}
 use Rattle.std.specs.Fmt.{signed_decimal}
 use Rattle.std.specs.Option.{option_map}
 use Rattle.std.specs.List.{prefix_len, list_all}
@@ -9,12 +12,16 @@ use Rattle.std.proofs.lemmas.Bool.Decides.{nat_tests}
 use Rattle.std.proofs.lemmas.Int.{ints}
 use Rattle.std.proofs.lemmas.List.{take_at, drop_at, drop-drop}
 use Rattle.vertex_expr.specs.Names.{is_name, is_name_byte}
-use Rattle.text_words.specs.Tokens.{is_blank, capped_number}
-use Rattle.text_words.specs.Lines.{Word, is_no_blank, words_from}
-use Rattle.text_words.specs.Fields.{is_ascii, ascii_word, first_word, none_more, word_at, ended_at, unsigned_of, whole_of, number_at, signed_at, name_at, in_bounds, in_range, ◌>>=◌}
+use Rattle.lexical.specs.Bytes.{is_blank}
+use Rattle.lexical.specs.Numbers.{capped_value}
+use Rattle.lexical.specs.Words.{Word, words_from}
+use Rattle.lexical.specs.Bytes.{is_no_blank}
+use Rattle.text_words.specs.Fields.{is_ascii, ascii_word, first_word, none_more, word_at, ended_at}
+use Rattle.text_words.specs.Fields.{unsigned_of, whole_of, number_at, signed_at, name_at, in_bounds}
+use Rattle.text_words.specs.Fields.{in_range, ◌>>=◌}
 use Rattle.text_words.specs.declared.error.LangError.{LangError}
 use Rattle.text_words.specs.declared.error.LangError.TheVariants.{Syntax, TooBig}
-use Rattle.text_words.proofs.LineLemmas.{word_front}
+use Rattle.lexical.proofs.PlaceLemmas.{words_from-cons}
 use Rattle.text_words.proofs.Lexing.{Passes, pass_all, IsNumber, decimal_is}
 
 -- a word of a printed line
@@ -40,22 +47,33 @@ no_blank_is b e = flip (is_blank b) e
     flip false e = refl
 
 -- the word in front
-front_word : (w rest : List ℕ) (at : ℕ) → IsField w → IsEnd rest → words_from 0 at (w ++ rest) ≡ record { at = at; bytes = w } ∷ words_from 0 (at + length w) rest
+front_word : (w rest : List ℕ) (at : ℕ) → IsField w → IsEnd rest
+    → words_from 0 at (w ++ rest) ≡ record { at = at; bytes = w }
+    ∷ words_from 0 (at + length w) rest
 front_word [] rest at f e = absurd (let h = f.some in omega arith)
 front_word (b ∷ bs) rest at f e =
     let n = length (b ∷ bs) in
-    word_front b (bs ++ rest) at n (no_blank_is b f.whole.0) (pass_all is_no_blank (b ∷ bs) rest f.whole (end_stops rest e)) f.some
-    ∙ ap (λ (l : List ℕ). let w : Word = record { at = at; bytes = l } in w ∷ words_from 0 (at + n) (drop n (b ∷ (bs ++ rest)))) (take_at (b ∷ bs) rest n refl)
-    ∙ ap (λ (l : List ℕ). let w : Word = record { at = at; bytes = b ∷ bs } in w ∷ words_from 0 (at + n) l) (drop_at (b ∷ bs) rest n refl)
+    words_from-cons b (bs ++ rest) at n (no_blank_is b f.whole.0)
+    (pass_all is_no_blank (b ∷ bs) rest f.whole (end_stops rest e)) f.some
+    ∙ ap (λ (l : List ℕ). let w : Word = record { at = at; bytes = l } in w
+    ∷ words_from 0 (at + n) (drop n (b ∷ (bs ++ rest)))) (take_at (b ∷ bs) rest n refl)
+    ∙ ap (λ (l : List ℕ). let w : Word = record { at = at; bytes = b ∷ bs } in w
+    ∷ words_from 0 (at + n) l) (drop_at (b ∷ bs) rest n refl)
 
-pub words_in_front : (w rest : List ℕ) (at : ℕ) → IsField w → IsEnd rest → words_from 0 at (w ++ rest) ≡ record { at = at; bytes = w } ∷ words_from 0 (at + length w) rest
+pub words_in_front : (w rest : List ℕ) (at : ℕ) → IsField w → IsEnd rest
+    → words_from 0 at (w ++ rest) ≡ record { at = at; bytes = w }
+    ∷ words_from 0 (at + length w) rest
 words_in_front = front_word
 
-pub ascii_field : (w : List ℕ) (at : ℕ) → IsField w → let v : Word = record { at = at; bytes = w } in ascii_word v ≡ Ok v
-ascii_field w at f = ap (λ b. cond b (Ok (record { at = at; bytes = w })) (Err (Syntax (at + prefix_len is_ascii w)))) f.ascii
+pub ascii_field : (w : List ℕ) (at : ℕ) → IsField w
+    → let v : Word = record { at = at; bytes = w } in ascii_word v ≡ Ok v
+ascii_field w at f =
+    ap (λ b. cond b (Ok (record { at = at; bytes = w }))
+    (Err (Syntax (at + prefix_len is_ascii w)))) f.ascii
 
 -- the next word, where one space and that word stand behind a place
-pub next_word : (line w rest : List ℕ) (p : ℕ) → drop p line ≡ 32 ∷ (w ++ rest) → IsField w → IsEnd rest → word_at line p ≡ Ok (record { at = p + 1; bytes = w })
+pub next_word : (line w rest : List ℕ) (p : ℕ) → drop p line ≡ 32 ∷ (w ++ rest) → IsField w
+    → IsEnd rest → word_at line p ≡ Ok (record { at = p + 1; bytes = w })
 unfolding word_at
 next_word line w rest p cut f e =
     ap (λ (l : List ℕ). first_word (length line) (words_from 0 p l)) cut
@@ -63,9 +81,11 @@ next_word line w rest p cut f e =
     ∙ ascii_field w (p + 1) f
 
 -- what stands behind that word
-pub behind_word : (line w rest : List ℕ) (p : ℕ) → drop p line ≡ 32 ∷ (w ++ rest) → drop (p + 1 + length w) line ≡ rest
+pub behind_word : (line w rest : List ℕ) (p : ℕ) → drop p line ≡ 32 ∷ (w ++ rest)
+    → drop (p + 1 + length w) line ≡ rest
 behind_word line w rest p cut =
-    ap (λ k. drop k line) (let h : p + 1 + length w ≡ p + length (32 ∷ w) = omega arith in h) ∙ sym (drop-drop (length (32 ∷ w)) p line)
+    ap (λ k. drop k line) (let h : p + 1 + length w ≡ p + length (32 ∷ w) = omega arith in h)
+    ∙ sym (drop-drop (length (32 ∷ w)) p line)
     ∙ ap (drop (length (32 ∷ w))) cut ∙ drop_at (32 ∷ w) rest (length (32 ∷ w)) refl
 
 -- nothing more stands in a line
@@ -97,25 +117,30 @@ digits_all (d ∷ ds) p = ap (λ a. a && list_all is_ascii_digit ds) p.0 ∙ dig
 unsigned_is : (n : ℕ) (ds : List ℕ) → IsNumber n ds → unsigned_of ds ≡ Some n
 unfolding unsigned_of
 unsigned_is n ds h =
-    ap (λ b. cond b None (cond (list_all is_ascii_digit ds) (Some (capped_number 0 ds)) None)) (positive (length ds) h.some)
-    ∙ ap (λ b. cond b (Some (capped_number 0 ds)) None) (digits_all ds h.all) ∙ ap Some h.value
+    ap (λ b. cond (not b && list_all is_ascii_digit ds) (Some (capped_value ds)) None)
+    (positive (length ds) h.some)
+    ∙ ap (λ b. cond b (Some (capped_value ds)) None) (digits_all ds h.all) ∙ ap Some h.value
   where
     positive : (k : ℕ) → 0 < k → (k == 0) ≡ false
     positive k some = grind (arith, nat_tests)
 
 pub number_field : (n : ℕ) (ds : List ℕ) → IsNumber n ds → IsField ds
-number_field n ds d = record { some = d.some; whole = digit_no_blank ds d.all; ascii = digit_ascii ds d.all }
+number_field n ds d =
+    record { some = d.some; whole = digit_no_blank ds d.all; ascii = digit_ascii ds d.all }
 
 -- a printed number is read again
-pub next_number : (line rest : List ℕ) (p n low high : ℕ) → drop p line ≡ 32 ∷ (decimal n ++ rest) → n < 2 ^ 64 → low ≤ n → n ≤ high → IsEnd rest
+pub next_number : (line rest : List ℕ) (p n low high : ℕ) → drop p line ≡ 32 ∷ (decimal n ++ rest)
+    → n < 2 ^ 64 → low ≤ n → n ≤ high → IsEnd rest
     → number_at line p low high ≡ Ok (n, p + 1 + length (decimal n))
 unfolding number_at
 next_number line rest p n low high cut small least most e =
     let d = decimal_is n small in
     let ds = decimal n in
-    ap (λ (o : Result Word LangError). o >>= λ w. in_bounds low high w (unsigned_of w.bytes)) (next_word line ds rest p cut (number_field n ds d) e)
+    ap (λ (o : Result Word LangError). o >>= λ w. in_bounds low high w (unsigned_of w.bytes))
+    (next_word line ds rest p cut (number_field n ds d) e)
     ∙ ap (in_bounds low high (record { at = p + 1; bytes = ds })) (unsigned_is n ds d)
-    ∙ ap (λ b. cond b (Ok (n, p + 1 + length ds)) (Err (TooBig (p + 1)))) (within n low high least most)
+    ∙ ap (λ b. cond b (Ok (n, p + 1 + length ds)) (Err (TooBig (p + 1))))
+    (within n low high least most)
   where
     within : (n low high : ℕ) → low ≤ n → n ≤ high → (nat_le low n && nat_le n high) ≡ true
     within n low high least most = grind (arith, nat_tests)
@@ -127,7 +152,8 @@ pub decimal_field : (n : ℕ) → n < 2 ^ 64 → IsField (decimal n)
 decimal_field n small = number_field n (decimal n) (decimal_is n small)
 
 -- digits don't begin with a minus sign
-no_minus : (ds : List ℕ) → Passes is_ascii_digit ds → 0 < length ds → (slice_index ds 0 == 45) ≡ false
+no_minus : (ds : List ℕ) → Passes is_ascii_digit ds → 0 < length ds
+    → (slice_index ds 0 == 45) ≡ false
 no_minus [] all some = absurd (omega arith)
 no_minus (d ∷ ds) all some = one d all.0
   where
@@ -138,11 +164,13 @@ pub whole_decimal : (z : ℤ) → FitsSigned w64 z → whole_of (signed_decimal 
 unfolding whole_of
 whole_decimal (pos n) fits =
     let d = decimal_is n (omega arith) in
-    ap (λ b. cond b (option_map (λ m. neg_ℤ (pos m)) (unsigned_of (drop 1 (decimal n)))) (option_map (λ m. pos m) (unsigned_of (decimal n)))) (no_minus (decimal n) d.all d.some)
+    ap (λ b. cond b (option_map (λ m. neg_ℤ (pos m)) (unsigned_of (drop 1 (decimal n))))
+    (option_map (λ m. pos m) (unsigned_of (decimal n)))) (no_minus (decimal n) d.all d.some)
     ∙ ap (λ (o : Option ℕ). option_map (λ m. pos m) o) (unsigned_is n (decimal n) d)
 whole_decimal (negsuc n) fits =
     let d = decimal_is (suc n) (omega arith) in
-    ap (λ (o : Option ℕ). option_map (λ m. neg_ℤ (pos m)) o) (unsigned_is (suc n) (decimal (suc n)) d)
+    ap (λ (o : Option ℕ). option_map (λ m. neg_ℤ (pos m)) o)
+    (unsigned_is (suc n) (decimal (suc n)) d)
 
 pub signed_field : (z : ℤ) → FitsSigned w64 z → IsField (signed_decimal z)
 signed_field (pos n) fits = decimal_field n (omega arith)
@@ -151,14 +179,18 @@ signed_field (negsuc n) fits =
     record { some = omega arith; whole = (refl, f.whole); ascii = f.ascii }
 
 -- a printed whole number is read again
-pub next_signed : (line rest : List ℕ) (p : ℕ) (z low high : ℤ) → drop p line ≡ 32 ∷ (signed_decimal z ++ rest) → FitsSigned w64 z → low ≤ℤ z → z ≤ℤ high → IsEnd rest
+pub next_signed : (line rest : List ℕ) (p : ℕ) (z low high : ℤ)
+    → drop p line ≡ 32 ∷ (signed_decimal z ++ rest) → FitsSigned w64 z → low ≤ℤ z → z ≤ℤ high
+    → IsEnd rest
     → signed_at line p low high ≡ Ok (z, p + 1 + length (signed_decimal z))
 unfolding signed_at
 next_signed line rest p z low high cut fits least most e =
     let ds = signed_decimal z in
-    ap (λ (o : Result Word LangError). o >>= λ w. in_range low high w (whole_of w.bytes)) (next_word line ds rest p cut (signed_field z fits) e)
+    ap (λ (o : Result Word LangError). o >>= λ w. in_range low high w (whole_of w.bytes))
+    (next_word line ds rest p cut (signed_field z fits) e)
     ∙ ap (in_range low high (record { at = p + 1; bytes = ds })) (whole_decimal z fits)
-    ∙ ap (λ b. cond b (Ok (z, p + 1 + length ds)) (Err (TooBig (p + 1)))) (within z low high least most)
+    ∙ ap (λ b. cond b (Ok (z, p + 1 + length ds)) (Err (TooBig (p + 1))))
+    (within z low high least most)
   where
     within : (z low high : ℤ) → low ≤ℤ z → z ≤ℤ high → (int_le low z && int_le z high) ≡ true
     within z low high least most = grind (arith, ints)
@@ -177,9 +209,14 @@ list_passes p (b ∷ bs) e = let h = both (p b) (list_all p bs) e in (h.0, list_
 pub name_bytes : (w : List ℕ) → is_name w ≡ true → (0 < length w) × Passes is_name_byte w
 unfolding is_name
 name_bytes [] e = absurd (let no : ⊥ = cc in no)
-name_bytes (b ∷ bs) e = pick (length (b ∷ bs) == 0) (nat_lt 32 (length (b ∷ bs))) (is_ascii_lowercase b) e (λ f. list_passes is_name_byte (b ∷ bs) f)
+name_bytes (b ∷ bs) e =
+    pick (length (b ∷ bs) == 0) (nat_lt 32 (length (b ∷ bs))) (is_ascii_lowercase b) e
+    (λ f. list_passes is_name_byte (b ∷ bs) f)
   where
-    pick : (empty long first : Bool) → cond empty false (cond long false (cond first (list_all is_name_byte (b ∷ bs)) false)) ≡ true → (list_all is_name_byte (b ∷ bs) ≡ true → Passes is_name_byte (b ∷ bs)) → (0 < length (b ∷ bs)) × Passes is_name_byte (b ∷ bs)
+    pick : (empty long first : Bool)
+        → cond empty false (cond long false (cond first (list_all is_name_byte (b ∷ bs)) false))
+        ≡ true → (list_all is_name_byte (b ∷ bs) ≡ true → Passes is_name_byte (b ∷ bs))
+        → (0 < length (b ∷ bs)) × Passes is_name_byte (b ∷ bs)
     pick true long first e f = absurd (let no : ⊥ = cc in no)
     pick false true first e f = absurd (let no : ⊥ = cc in no)
     pick false false true e f = (omega arith, f e)
@@ -203,11 +240,15 @@ name_ascii (b ∷ bs) p = both (is_ascii b) (list_all is_ascii bs) (one b p.0) (
     both x y e f = ap (λ a. a && y) e ∙ f
 
 pub name_field : (w : List ℕ) → is_name w ≡ true → IsField w
-name_field w e = let h = name_bytes w e in record { some = h.0; whole = name_no_blank w h.1; ascii = name_ascii w h.1 }
+name_field w e =
+    let h = name_bytes w e in
+    record { some = h.0; whole = name_no_blank w h.1; ascii = name_ascii w h.1 }
 
 -- a printed name is read again
-pub next_name : (line w rest : List ℕ) (p : ℕ) → drop p line ≡ 32 ∷ (w ++ rest) → is_name w ≡ true → IsEnd rest → name_at line p ≡ Ok (record { at = p + 1; bytes = w })
+pub next_name : (line w rest : List ℕ) (p : ℕ) → drop p line ≡ 32 ∷ (w ++ rest) → is_name w ≡ true
+    → IsEnd rest → name_at line p ≡ Ok (record { at = p + 1; bytes = w })
 unfolding name_at
 next_name line w rest p cut is e =
-    ap (λ (o : Result Word LangError). o >>= λ w. cond (is_name w.bytes) (Ok w) (Err (Syntax w.at))) (next_word line w rest p cut (name_field w is) e)
+    ap (λ (o : Result Word LangError). o >>= λ w. cond (is_name w.bytes) (Ok w) (Err (Syntax w.at)))
+    (next_word line w rest p cut (name_field w is) e)
     ∙ ap (λ b. cond b (Ok (record { at = p + 1; bytes = w })) (Err (Syntax (p + 1)))) is

@@ -1,5 +1,4 @@
 pub mod TokenLemmas
-pub mod LineLemmas
 pub mod Lexing
 pub mod FieldLemmas
 pub mod PrintedLines

@@ -1,6 +1,5 @@
 pub mod Token
 pub mod Tokens
-pub mod Lines
 pub mod Fields
 pub mod Seen
 pub mod Says

@@ -1,12 +1,8 @@
--- What contracts see of the code's words and tokens.
-use Rattle.text_words.specs.Lines.{Word}
+-- What contracts see of the code's tokens.
 use Rattle.text_words.specs.Token.{Token, number, word, at_most, dash, mark}
-use Rattle.text_words.specs.declared.lines.Word.{Word as CodeWord}
 use Rattle.text_words.specs.declared.token.Token.{Token as CodeToken}
-use Rattle.text_words.specs.declared.token.Token.TheVariants.{Number, Word as WordToken, AtMost, Dash, Mark}
-
-abbrev pub word_of : CodeWord → Word
-word_of w = record { at = w.at; bytes = w.bytes.now }
+use Rattle.text_words.specs.declared.token.Token.TheVariants.{Number, Word as WordToken, AtMost}
+use Rattle.text_words.specs.declared.token.Token.TheVariants.{Dash, Mark}
 
 abbrev pub seen : CodeToken → Token
 seen (Number n) = number n

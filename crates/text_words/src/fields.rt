@@ -1,15 +1,17 @@
 //! The fields of a line, from left to right.
 ghost use Rattle.std.specs.Prelude.{◌≡◌, ◌+◌, ◌≤◌, ◌<◌, ◌^◌, length, IfOk, pos, ℤ};
 ghost use Rattle.std.specs.List.{prefix_len, list_all};
-ghost use Rattle.std.specs.Char.{is_ascii_digit};
 ghost use Rattle.vertex_expr.specs.Names.{is_name_byte as is_name, is_name as is_name_word};
-ghost use Rattle.text_words.specs.Seen.{word_of};
-ghost use Rattle.text_words.specs.Says.{Says};
-ghost use Rattle.text_words.specs.Fields.{is_ascii, ascii_word as ascii_word_of, word_at as word_of_line, ended_at as ended_of, unsigned_of as unsigned_number, whole_of as whole_number, number_at as number_of_line, signed_at as signed_of_line, name_at as name_of_line};
+ghost use Rattle.lexical.specs.Seen.{word_of};
+ghost use Rattle.text_words.specs.Says.{SaysAlways};
+ghost use Rattle.text_words.specs.Fields.{is_ascii, ascii_word as ascii_word_of};
+ghost use Rattle.text_words.specs.Fields.{word_at as word_of_line, ended_at as ended_of};
+ghost use Rattle.text_words.specs.Fields.{whole_of as whole_number, number_at as number_of_line};
+ghost use Rattle.text_words.specs.Fields.{signed_at as signed_of_line, name_at as name_of_line};
 
 use crate::error::LangError;
-use crate::lines::{Word, next_word};
-use crate::tokens::{capped_number, is_name_byte};
+use crate::tokens::is_name_byte;
+use lexical::{Word, decimal, word_from};
 
 fn ascii_len(bytes: &[u8]) -> usize
     ensures value { result ≡ prefix_len is_ascii bytes.now }
@@ -26,7 +28,7 @@ fn is_all_ascii(bytes: &[u8]) -> bool
 
 pub fn ascii_word(word: Word) -> Result<Word, LangError>
     requires { word.at + length word.bytes.now < 2 ^ 32 }
-    ensures says { Says (λ w. word_of w) result (ascii_word_of (word_of word.entry)) }
+    ensures says { SaysAlways (λ w. word_of w) result (ascii_word_of (word_of word.entry)) }
     ensures same { IfOk result (λ w. w ≡ word.entry) }
 {
     if is_all_ascii(word.bytes) {
@@ -43,10 +45,10 @@ pub fn ascii_word(word: Word) -> Result<Word, LangError>
 pub fn word_at(line: &[u8], from: usize) -> Result<Word<'_>, LangError>
     requires within { from ≤ length line.now }
     requires short { length line.now < 2 ^ 32 }
-    ensures says { Says (λ w. word_of w) result (word_of_line line.now from) }
+    ensures says { SaysAlways (λ w. word_of w) result (word_of_line line.now from) }
     ensures within { IfOk result (λ w. w.at + length w.bytes.now ≤ length line.now) }
 {
-    match next_word(line, from) {
+    match word_from(line, from) {
         None => Err(LangError::Syntax {
             at: line.len() as u32,
         }),
@@ -59,9 +61,9 @@ pub fn word_at(line: &[u8], from: usize) -> Result<Word<'_>, LangError>
 pub fn ended_at(line: &[u8], from: usize) -> Result<(), LangError>
     requires within { from ≤ length line.now }
     requires short { length line.now < 2 ^ 32 }
-    ensures { Says (λ _. tt) result (ended_of line.now from) }
+    ensures { SaysAlways (λ _. tt) result (ended_of line.now from) }
 {
-    match next_word(line, from) {
+    match word_from(line, from) {
         None => Ok(()),
         Some(word) => {
             let word = ascii_word(word)?;
@@ -70,56 +72,37 @@ pub fn ended_at(line: &[u8], from: usize) -> Result<(), LangError>
     }
 }
 
-fn is_all_digits(bytes: &[u8]) -> bool
-    ensures { result ≡ list_all is_ascii_digit bytes.now }
-{
-    bytes.iter().all(|b| b.is_ascii_digit())
-}
-
 fn is_all_name(bytes: &[u8]) -> bool
     ensures { result ≡ list_all is_name bytes.now }
 {
     bytes.iter().all(|b| is_name_byte(*b))
 }
 
-#[tactic(auto, unfolding(crate::specs::Fields::unsigned_of))]
-pub fn unsigned_of(word: &[u8]) -> Option<u64>
-    ensures { result ≡ unsigned_number word.now }
-{
-    if word.is_empty() {
-        None
-    } else if is_all_digits(word) {
-        Some(capped_number(word))
-    } else {
-        None
-    }
-}
-
-#[tactic(auto, unfolding(crate::specs::Fields::whole_of))]
+#[tactic(auto, unfolding(crate::specs::Fields::whole_of, crate::specs::Fields::unsigned_of))]
 fn whole_of(word: &[u8]) -> Option<i128>
     ensures { result ≡ whole_number word.now }
 {
     if !word.is_empty() && word[0] == b'-' {
         let (_sign, digits) = word.split_at(1);
-        let number = unsigned_of(digits)?;
+        let number = decimal(digits)?;
         Some(-i128::from(number))
     } else {
-        let number = unsigned_of(word)?;
+        let number = decimal(word)?;
         Some(i128::from(number))
     }
 }
 
 /// A number from `low` to `high`, and the place behind it.
-#[tactic(auto, unfolding(crate::specs::Fields::number_at))]
+#[tactic(auto, unfolding(crate::specs::Fields::number_at, crate::specs::Fields::unsigned_of))]
 pub fn number_at(line: &[u8], from: usize, low: u64, high: u64) -> Result<(u64, usize), LangError>
     requires within { from ≤ length line.now }
     requires short { length line.now < 2 ^ 32 }
-    ensures says { Says (λ r. r) result (number_of_line line.now from low high) }
+    ensures says { SaysAlways (λ r. r) result (number_of_line line.now from low high) }
     ensures within { IfOk result (λ r. r.1 ≤ length line.now) }
     ensures bounded { IfOk result (λ r. r.0 ≤ high) }
 {
     let word = word_at(line, from)?;
-    let Some(number) = unsigned_of(word.bytes) else {
+    let Some(number) = decimal(word.bytes) else {
         return Err(LangError::Syntax { at: word.at as u32 });
     };
     if low <= number && number <= high {
@@ -134,7 +117,7 @@ pub fn number_at(line: &[u8], from: usize, low: u64, high: u64) -> Result<(u64, 
 pub fn signed_at(line: &[u8], from: usize, low: i64, high: i64) -> Result<(i64, usize), LangError>
     requires within { from ≤ length line.now }
     requires short { length line.now < 2 ^ 32 }
-    ensures says { Says (λ r. r) result (signed_of_line line.now from low high) }
+    ensures says { SaysAlways (λ r. r) result (signed_of_line line.now from low high) }
     ensures within { IfOk result (λ r. r.1 ≤ length line.now) }
 {
     let word = word_at(line, from)?;
@@ -166,7 +149,7 @@ fn is_name(word: &[u8]) -> bool
 pub fn name_at(line: &[u8], from: usize) -> Result<Word<'_>, LangError>
     requires within { from ≤ length line.now }
     requires short { length line.now < 2 ^ 32 }
-    ensures says { Says (λ w. word_of w) result (name_of_line line.now from) }
+    ensures says { SaysAlways (λ w. word_of w) result (name_of_line line.now from) }
     ensures within { IfOk result (λ w. w.at + length w.bytes.now ≤ length line.now) }
 {
     let word = word_at(line, from)?;

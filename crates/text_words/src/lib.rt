@@ -8,7 +8,7 @@ mod token;
 mod tokens;
 
 pub use error::{Keyword, LangError};
-pub use fields::{ascii_word, ended_at, name_at, number_at, signed_at, unsigned_of, word_at};
-pub use lines::{Line, Word, line_at, next_word};
+pub use fields::{ascii_word, ended_at, name_at, number_at, signed_at, word_at};
+pub use lines::{Line, line_at};
 pub use token::Token;
-pub use tokens::{Found, next_token};
+pub use tokens::{PlacedToken, next_token};

@@ -1,18 +1,16 @@
 //! The tokens of a line.
-ghost use Rattle.std.specs.Prelude.{◌≡◌, ◌+◌, ◌-◌, ◌<◌, ◌≤◌, ◌∷◌, [], length, drop, slice_index, MatchOption, IfSome};
+ghost use Rattle.std.specs.Prelude.{◌≡◌, ◌+◌, ◌-◌, ◌<◌, ◌≤◌, ◌∷◌, [], length, drop, slice_index};
+ghost use Rattle.std.specs.Prelude.{MatchOption, IfSome};
 ghost use Rattle.std.specs.List.{prefix_len};
 ghost use Rattle.std.specs.Char.{is_ascii_digit};
 ghost use Rattle.text_words.specs.Seen.{seen};
-ghost use Rattle.text_words.specs.Tokens.{is_blank as is_blank_byte, capped_number as capped_number_from, front_number as front_number_of, number_behind as number_behind_of, first_token as first_token_of, tokens_from};
+ghost use Rattle.text_words.specs.Tokens.{front_number as front_number_of};
+ghost use Rattle.text_words.specs.Tokens.{number_behind as number_behind_of};
+ghost use Rattle.text_words.specs.Tokens.{first_token as first_token_of, tokens_from};
 ghost use Rattle.vertex_expr.specs.Names.{is_name_byte as is_name};
 
 use crate::token::Token;
-
-pub fn is_blank(b: u8) -> bool
-    ensures { result ≡ is_blank_byte b }
-{
-    b == b' ' || b == b'\t'
-}
+use lexical::{capped_number, is_blank};
 
 pub fn is_name_byte(b: u8) -> bool
     ensures { result ≡ is_name b }
@@ -32,19 +30,6 @@ fn name_len(text: &[u8]) -> usize
     ensures within { result ≤ length text.now }
 {
     text.iter().take_while(|b| is_name_byte(**b)).count()
-}
-
-/// The number of digits, capped_number.
-pub fn capped_number(digits: &[u8]) -> u64
-    ensures { result ≡ capped_number_from 0 digits.now }
-{
-    let mut number: u64 = 0;
-    for b in digits {
-        number = number
-            .saturating_mul(10)
-            .saturating_add(u64::from(b.saturating_sub(48)));
-    }
-    number
 }
 
 /// The number of the digits in front.
@@ -69,7 +54,8 @@ fn number_behind(text: &[u8]) -> Option<u64>
 #[tactic(auto, unfolding(crate::specs::Tokens::first_token))]
 fn first_token(text: &[u8]) -> (Token<'_>, usize)
     requires { 0 < length text.now }
-    ensures token { first_token_of (slice_index text.now 0) (drop 1 text.now) ≡ (seen result.0, result.1) }
+    ensures token { first_token_of (slice_index text.now 0) (drop 1 text.now)
+        ≡ (seen result.0, result.1) }
     ensures some { 0 < result.1 }
     ensures within { result.1 ≤ length text.now }
 {
@@ -89,17 +75,18 @@ fn first_token(text: &[u8]) -> (Token<'_>, usize)
 }
 
 #[derive(Clone, Copy, Debug)]
-pub struct Found<'a> {
+pub struct PlacedToken<'a> {
     pub token: Token<'a>,
     pub at: usize,
     pub next: usize,
 }
 
 /// The first token from a place on.
-pub fn next_token(text: &[u8], from: usize) -> Option<Found<'_>>
+pub fn next_token(text: &[u8], from: usize) -> Option<PlacedToken<'_>>
     requires { from ≤ length text.now }
     ensures found { MatchOption result (tokens_from 0 from (drop from text.now) ≡ [])
-        (λ f. tokens_from 0 from (drop from text.now) ≡ (seen f.token, f.at) ∷ tokens_from 0 f.next (drop f.next text.now)) }
+        (λ f. tokens_from 0 from (drop from text.now)
+        ≡ (seen f.token, f.at) ∷ tokens_from 0 f.next (drop f.next text.now)) }
     ensures within { IfSome result (λ f. f.next ≤ length text.now) }
     ensures forward { IfSome result (λ f. from < f.next) }
     ensures inside { IfSome result (λ f. f.at < f.next) }
@@ -109,7 +96,7 @@ pub fn next_token(text: &[u8], from: usize) -> Option<Found<'_>>
         if !is_blank(text[at]) {
             let (_blanks, rest) = text.split_at(at);
             let (token, len) = first_token(rest);
-            return Some(Found {
+            return Some(PlacedToken {
                 token,
                 at,
                 next: at + len,

@@ -1,5 +1,6 @@
 -- The floor of a quotient is the greatest whole number that is at most the quotient.
-use Rattle.std.proofs.Common.{◌≡◌, ◌↔◌, ℕ, ℤ, pos, negsuc, zero, suc, neg_ℤ, ◌*◌, ◌/◌, ◌<◌, ◌≤◌, ◌*ℤ◌, ◌≤ℤ◌, arith, refl, sym}
+use Rattle.std.proofs.Common.{◌≡◌, ◌↔◌, ℕ, ℤ, pos, negsuc, zero, suc, neg_ℤ, ◌*◌, ◌/◌, ◌<◌, ◌≤◌}
+use Rattle.std.proofs.Common.{◌*ℤ◌, ◌≤ℤ◌, arith, refl, sym}
 use Rattle.std.proofs.lemmas.Int.{ints}
 use Rattle.std.proofs.Math.Nat.{mul-le-mul_right, div-mul-le_self, div-lt_iff_lt-mul}
 use Rattle.std.proofs.lemmas.Nat.{le-div}
@@ -30,7 +31,11 @@ floor_above (pos a) (pos m) n = (
   λ h. let l = (le_quotient m a n).1 (omega (arith, ints)) in omega (arith, ints, l),
 )
 floor_above (pos a) (negsuc m) n = (λ h. omega (arith, ints), λ h. omega (arith, ints))
-floor_above (negsuc a) (pos m) n = (λ h. absurd (omega (arith, ints)), λ h. absurd (omega (arith, ints)))
+floor_above (negsuc a) (pos m) n = (
+  λ h. absurd (omega (arith, ints)),
+  λ h. absurd
+      (omega (arith, ints)),
+)
 floor_above (negsuc a) (negsuc m) n = (
   λ h. let l = (quotient_le m a n).0 (omega (arith, ints)) in omega (arith, ints, l),
   λ h. let l = (quotient_le m a n).1 (omega (arith, ints)) in omega (arith, ints, l),
@@ -38,16 +43,16 @@ floor_above (negsuc a) (negsuc m) n = (
 
 -- ---- below 0
 
-negated : (q : ℤ) (n : ℕ) → (q *ℤ negsuc n) ≡ neg_ℤ (q *ℤ pos (suc n))
-negated (pos zero) n = refl
-negated (pos (suc m)) n = refl
-negated (negsuc m) n = sym (neg_ℤ-neg_ℤ (pos (suc m * suc n)))
+times_negsuc : (q : ℤ) (n : ℕ) → (q *ℤ negsuc n) ≡ neg_ℤ (q *ℤ pos (suc n))
+times_negsuc (pos zero) n = refl
+times_negsuc (pos (suc m)) n = refl
+times_negsuc (negsuc m) n = sym (neg_ℤ-neg_ℤ (pos (suc m * suc n)))
 
-turned : (x y : ℤ) → (y ≤ℤ neg_ℤ x) ↔ (x ≤ℤ neg_ℤ y)
-turned x y = (λ h. omega (arith, ints), λ h. omega (arith, ints))
+negation_turns_le : (x y : ℤ) → (y ≤ℤ neg_ℤ x) ↔ (x ≤ℤ neg_ℤ y)
+negation_turns_le x y = (λ h. omega (arith, ints), λ h. omega (arith, ints))
 
 pub floor_below : (x q : ℤ) (n : ℕ) → (q ≤ℤ floor_by (neg_ℤ x) (suc n)) ↔ (x ≤ℤ (q *ℤ negsuc n))
 floor_below x q n =
     let above = floor_above (neg_ℤ x) q n in
-    let turn = turned x (q *ℤ pos (suc n)) in
-    rw (negated q n) (λ h. turn.0 (above.0 h), λ h. above.1 (turn.1 h))
+    let turn = negation_turns_le x (q *ℤ pos (suc n)) in
+    rw (times_negsuc q n) (λ h. turn.0 (above.0 h), λ h. above.1 (turn.1 h))

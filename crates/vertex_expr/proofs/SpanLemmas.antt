@@ -1,5 +1,6 @@
 -- Intervals and the tests of them.
-use Rattle.std.proofs.Common.{◌≡◌, ℤ, pos, Bool, true, false, ◌&&◌, if◌then◌else◌, arith, Some, None, refl}
+use Rattle.std.proofs.Common.{◌≡◌, ℤ, pos, Bool, true, false, ◌&&◌, if◌then◌else◌, arith, Some}
+use Rattle.std.proofs.Common.{None, refl}
 use Rattle.std.specs.Prelude.{int_le, ◌≤ℤ◌}
 use Rattle.std.proofs.lemmas.Int.{ints}
 use Rattle.vertex_expr.specs.Span.{Span, IsIn, IsSmall, IsNarrow, is_narrow, holds_zero}
@@ -21,7 +22,10 @@ true_and x y e h = cc (e, h)
 
 -- the tests and the facts
 pub narrow_true : (s : Span) → is_narrow s ≡ true → IsNarrow s
-narrow_true s e = let both = and_true _ _ e in record { low = le_true _ _ both.0; high = le_true _ _ both.1 }
+narrow_true s e = let both = and_true _ _ e in record {
+  low = le_true _ _ both.0;
+  high = le_true _ _ both.1;
+}
 
 pub narrow_test : (s : Span) → IsNarrow s → is_narrow s ≡ true
 narrow_test s n = true_and _ _ (le_test _ _ n.low) (le_test _ _ n.high)
@@ -39,4 +43,7 @@ narrow_unbroken s e = narrow_true s (unless_wide (is_narrow s) e)
 
 -- the number of a narrow interval is small
 pub small_in : (s : Span) (x : ℤ) → IsNarrow s → IsIn s x → IsSmall x
-small_in s x n i = let a = n.low in let b = n.high in let c = i.above in let d = i.below in record { low = omega (arith, ints); high = omega (arith, ints) }
+small_in s x n i = let a = n.low in let b = n.high in let c = i.above in let d = i.below in record {
+  low = omega (arith, ints);
+  high = omega (arith, ints);
+}

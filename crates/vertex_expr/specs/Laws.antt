@@ -12,14 +12,17 @@ use Rattle.vertex_expr.specs.declared.env.Env.{Env}
 use Rattle.vertex_expr.specs.declared.expr.Part.{Part}
 use Rattle.vertex_expr.specs.declared.program.ProgramEntries.{ProgramEntries}
 
--- a whole number is at most the floor of x / d just where it is at most the quotient, at d above 0 and below
+-- a whole number is at most the floor of x / d just where it is at most the quotient, at d above 0
+-- and below
 abbrev pub FloorIsGreatest : Type 0
 FloorIsGreatest = (x q : ℤ) (n : ℕ)
-    → ((q ≤ℤ floor_div x (pos (suc n))) ↔ ((q *ℤ pos (suc n)) ≤ℤ x)) × ((q ≤ℤ floor_div x (negsuc n)) ↔ (x ≤ℤ (q *ℤ negsuc n)))
+    → ((q ≤ℤ floor_div x (pos (suc n))) ↔ ((q *ℤ pos (suc n)) ≤ℤ x))
+    × ((q ≤ℤ floor_div x (negsuc n)) ↔ (x ≤ℤ (q *ℤ negsuc n)))
 
 -- under any environment inside the bounds each node of a safe expression is sound
 abbrev pub BoxesAreSound : Type 0
-BoxesAreSound = (ps : List ℤ) (b : Bounds) (n : Env) (t : Tree) → InBounds b n → IsSafe ps b t → EachNode (IsSound ps b n) t
+BoxesAreSound = (ps : List ℤ) (b : Bounds) (n : Env) (t : Tree) → InBounds b n → IsSafe ps b t
+    → EachNode (IsSound ps b n) t
 
 -- what an expression doesn't mention doesn't change its meaning
 abbrev pub OnlyMentionedMatters : Type 0
@@ -29,10 +32,13 @@ OnlyMentionedMatters = (ps : List ℤ) (n m : Env) (t : Tree) → AgreeFor t n m
 abbrev pub AllAreNumbered : Type 0
 AllAreNumbered = (t : Tree) → length (postorder t) ≡ nodes t
 
--- the expressions of a program name only what is there and mention only what has an interval in their part
+-- the expressions of a program name only what is there and mention only what has an interval in
+-- their part
 abbrev pub ProgramsAreKnown : Type 0
-ProgramsAreKnown = (p : ProgramEntries) (part : Part) → IsWritable p → All (EachNode (IsKnown (values_of p.params) (bounds_in p part))) (trees_in p part)
+ProgramsAreKnown = (p : ProgramEntries) (part : Part) → IsWritable p
+    → All (EachNode (IsKnown (values_of p.params) (bounds_in p part))) (trees_in p part)
 
 -- where each node is known and none has a break, the expression is safe
 abbrev pub UnbrokenIsSafe : Type 0
-UnbrokenIsSafe = (ps : List ℤ) (b : Bounds) (t : Tree) → EachNode (IsKnown ps b) t → (IsSafe ps b t ↔ All (λ s. break_at ps b s ≡ None) (postorder t))
+UnbrokenIsSafe = (ps : List ℤ) (b : Bounds) (t : Tree) → EachNode (IsKnown ps b) t
+    → (IsSafe ps b t ↔ All (λ s. break_at ps b s ≡ None) (postorder t))

@@ -1,8 +1,10 @@
 -- What an expression means.
-use Rattle.std.specs.Prelude.{ℤ, pos, ◌+ℤ◌, ◌-ℤ◌, ◌*ℤ◌, ◌&&◌, Bool, if◌then◌else◌, List, slice_index_or, int_lt, int_le}
+use Rattle.std.specs.Prelude.{ℤ, pos, ◌+ℤ◌, ◌-ℤ◌, ◌*ℤ◌, ◌&&◌, Bool, if◌then◌else◌, List}
+use Rattle.std.specs.Prelude.{slice_index_or, int_lt, int_le}
 use Rattle.std.specs.Int.{int_min, int_max}
 use Rattle.vertex_expr.specs.Floor.{floor_div}
-use Rattle.vertex_expr.specs.Tree.{Tree, literal, param, val, outdeg, weight, attr, id, agg, old, plus, minus, times, over, least, greatest, clamp, choose}
+use Rattle.vertex_expr.specs.Tree.{Tree, literal, param, val, outdeg, weight, attr, id, agg, old}
+use Rattle.vertex_expr.specs.Tree.{plus, minus, times, over, least, greatest, clamp, choose}
 use Rattle.vertex_expr.specs.declared.env.Env.{Env}
 use Rattle.vertex_expr.specs.declared.expr.Compare.{Compare}
 use Rattle.vertex_expr.specs.declared.expr.Compare.TheVariants.{Less, AtMost, Equal}
@@ -13,7 +15,8 @@ holds Less a b = int_lt a b
 holds AtMost a b = int_le a b
 holds Equal a b = int_le a b && int_le b a
 
--- the value of an expression over whole numbers without bound, where the program's params are these numbers
+-- the value of an expression over whole numbers without bound, where the program's params are these
+-- numbers
 abbrev pub ev : List ℤ → Env → Tree → ℤ
 ev ps n (literal x) = x
 ev ps n (param k) = slice_index_or ps k (pos 0)

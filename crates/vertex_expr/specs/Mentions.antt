@@ -1,6 +1,7 @@
 -- What an expression mentions.
 use Rattle.std.specs.Prelude.{◌≡◌, ◌||◌, Bool, true, false}
-use Rattle.vertex_expr.specs.Tree.{Tree, outdeg, weight, attr, plus, minus, times, over, least, greatest, clamp, choose}
+use Rattle.vertex_expr.specs.Tree.{Tree, outdeg, weight, attr, plus, minus, times, over, least}
+use Rattle.vertex_expr.specs.Tree.{greatest, clamp, choose}
 use Rattle.vertex_expr.specs.declared.env.Env.{Env}
 
 -- one of its leaves passes
@@ -37,7 +38,8 @@ mentions_weight t = any_leaf is_weight t
 abbrev pub mentions_attr : Tree → Bool
 mentions_attr t = any_leaf is_attr t
 
--- two environments differ at most in an out-degree, a weight or an attribute that the expression doesn't mention
+-- two environments differ at most in an out-degree, a weight or an attribute that the expression
+-- doesn't mention
 pub record AgreeFor (t : Tree) (n m : Env) : Type 0 where
   pub val : n.val ≡ m.val
   pub agg : n.agg ≡ m.agg

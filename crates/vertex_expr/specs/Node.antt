@@ -1,7 +1,10 @@
 -- The tree that a node stands for.
 use Rattle.vertex_expr.specs.declared.expr.Expr.{Expr}
-use Rattle.vertex_expr.specs.declared.expr.Expr.TheVariants.{Literal, Param, Val, Outdeg, Weight, Attr, Id, Agg, Old, Plus, Minus, Times, Over, Min, Max, Clamp, If}
-use Rattle.vertex_expr.specs.Tree.{Tree, literal, param, val, outdeg, weight, attr, id, agg, old, plus, minus, times, over, least, greatest, clamp, choose}
+use Rattle.vertex_expr.specs.declared.expr.Expr.TheVariants.{Literal, Param, Val, Outdeg, Weight}
+use Rattle.vertex_expr.specs.declared.expr.Expr.TheVariants.{Attr, Id, Agg, Old, Plus, Minus, Times}
+use Rattle.vertex_expr.specs.declared.expr.Expr.TheVariants.{Over, Min, Max, Clamp, If}
+use Rattle.vertex_expr.specs.Tree.{Tree, literal, param, val, outdeg, weight, attr, id, agg, old}
+use Rattle.vertex_expr.specs.Tree.{plus, minus, times, over, least, greatest, clamp, choose}
 
 abbrev pub tree_of : Expr → Tree
 tree_of (Literal x) = literal x

@@ -28,7 +28,8 @@ init_bounds p = record {
   id = record { low = pos 0; high = pos (p.limits.vertices - 1) };
 }
 
--- what contribute reads: also the value and the out-degree of the source, at least 1 as it has this edge, and the edge's weight
+-- what contribute reads: also the value and the out-degree of the source, at least 1 as it has this
+-- edge, and the edge's weight
 abbrev pub contribute_bounds : ProgramEntries → Bounds
 contribute_bounds p = record {
   val = lane_spans p.ranges;
@@ -46,7 +47,10 @@ contributed p = map (box (values_of p.params) (contribute_bounds p)) p.contribut
 
 -- what up to so many contributions of this interval come to
 abbrev pub combined : Combine → ℕ → Span → Span
-combined Sum degree s = record { low = int_min (pos 0) (pos degree *ℤ s.low); high = int_max (pos 0) (pos degree *ℤ s.high) }
+combined Sum degree s = record {
+  low = int_min (pos 0) (pos degree *ℤ s.low);
+  high = int_max (pos 0) (pos degree *ℤ s.high);
+}
 combined (Min e) degree s = record { low = int_min e s.low; high = e }
 combined (Max e) degree s = record { low = e; high = int_max e s.high }
 

@@ -2,8 +2,9 @@
 use Rattle.std.specs.Prelude.{ℤ, pos, neg_ℤ, [], ◌∷◌, codes, Some, None}
 use Rattle.vertex_expr.specs.Box.{Bounds}
 use Rattle.vertex_expr.specs.Span.{Span}
-use Rattle.vertex_expr.specs.Tree.{Tree, literal, val, outdeg, weight, attr, id, agg, old, plus, minus, times, over, least, greatest, clamp, choose}
-use Rattle.vertex_expr.specs.declared.expr.Compare.TheVariants.{Less, AtMost, Equal}
+use Rattle.vertex_expr.specs.Tree.{Tree, literal, val, outdeg, weight, attr, id, agg, old, plus}
+use Rattle.vertex_expr.specs.Tree.{minus, times, over, least, clamp, choose}
+use Rattle.vertex_expr.specs.declared.expr.Compare.TheVariants.{AtMost}
 use Rattle.vertex_expr.specs.declared.program.Combine.TheVariants.{Sum}
 use Rattle.vertex_expr.specs.declared.program.ProgramEntries.{ProgramEntries}
 
@@ -13,7 +14,9 @@ share = over (val 0) outdeg
 
 -- clamp(150000 + agg[0] * 17 / 20, 0, 1000000000000)
 abbrev pub damped : Tree
-damped = clamp (plus (literal (pos 150000)) (over (times (agg 0) (literal (pos 17))) (literal (pos 20)))) (literal (pos 0)) (literal (pos 1000000000000))
+damped = clamp (plus (literal (pos 150000))
+    (over (times (agg 0) (literal (pos 17))) (literal (pos 20)))) (literal (pos 0))
+    (literal (pos 1000000000000))
 
 -- a program that gives each vertex a rank, where 1000000 stands for 1
 abbrev pub rank : ProgramEntries
@@ -37,14 +40,6 @@ rank = record {
   apply = damped ∷ [];
 }
 
--- if(attr = 1, 1000000, if(0 < attr, 0, clamp(agg[0] * 1000000 / max(agg[0] + agg[1], 1), 0, 1000000)))
-abbrev pub part_of_all : Tree
-part_of_all = over (times (agg 0) (literal (pos 1000000))) (greatest (plus (agg 0) (agg 1)) (literal (pos 1)))
-
-abbrev pub label : Tree
-label = choose Equal attr (literal (pos 1)) (literal (pos 1000000))
-    (choose Less (literal (pos 0)) attr (literal (pos 0)) (clamp part_of_all (literal (pos 0)) (literal (pos 1000000))))
-
 -- if(old[0] <= id, old[0] - weight, min(id, attr))
 abbrev pub mixed : Tree
 mixed = choose AtMost (old 0) id (minus (old 0) weight) (least id attr)
@@ -53,11 +48,11 @@ mixed = choose AtMost (old 0) id (minus (old 0) weight) (least id attr)
 abbrev pub around : ℤ → Span
 around n = record { low = neg_ℤ n; high = n }
 
--- where the numbers of the environments of these two lie
+-- where the numbers of its environments lie
 abbrev pub hand_bounds : Bounds
 hand_bounds = record {
   val = [];
-  agg = around (pos 1000000000) ∷ around (pos 1000000000) ∷ [];
+  agg = [];
   old = around (pos 1000) ∷ [];
   outdeg = None;
   weight = Some (around (pos 1000));

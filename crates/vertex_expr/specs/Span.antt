@@ -1,5 +1,6 @@
 -- Intervals.
-use Rattle.std.specs.Prelude.{◌≤◌, ◌<◌, ◌≤ℤ◌, ◌^◌, ◌&&◌, ℕ, ℤ, pos, neg_ℤ, Bool, int_le, List, length, slice_index_or, Option, Some, None}
+use Rattle.std.specs.Prelude.{◌≤◌, ◌<◌, ◌≤ℤ◌, ◌^◌, ◌&&◌, ℕ, ℤ, pos, neg_ℤ, Bool, int_le, List}
+use Rattle.std.specs.Prelude.{length, slice_index_or, Option, Some, None}
 use Rattle.std.specs.Int.{int_min, int_max}
 
 -- the whole numbers from low to high
@@ -19,7 +20,8 @@ pub record IsIn (s : Span) (x : ℤ) : Type 0 where
 -- each number lies in the interval of its place; there may be further numbers
 pub record AreIn (spans : List Span) (xs : List ℤ) : Type 0 where
   pub long : length spans ≤ length xs
-  pub each : (k : ℕ) → k < length spans → IsIn (slice_index_or spans k (only (pos 0))) (slice_index_or xs k (pos 0))
+  pub each : (k : ℕ) → k < length spans
+      → IsIn (slice_index_or spans k (only (pos 0))) (slice_index_or xs k (pos 0))
 
 -- the number lies in the interval, if there is one
 abbrev pub IsInAny : Option Span → ℤ → Type 0
@@ -46,7 +48,10 @@ holds_zero s = int_le s.low (pos 0) && int_le (pos 0) s.high
 
 -- from the least to the greatest of four numbers
 abbrev pub hull : ℤ → ℤ → ℤ → ℤ → Span
-hull p q r s = record { low = int_min (int_min p q) (int_min r s); high = int_max (int_max p q) (int_max r s) }
+hull p q r s = record {
+  low = int_min (int_min p q) (int_min r s);
+  high = int_max (int_max p q) (int_max r s);
+}
 
 abbrev pub least_span : Span → Span → Span
 least_span s t = record { low = int_min s.low t.low; high = int_min s.high t.high }

@@ -1,8 +1,11 @@
 -- What a program's text can have.
-use Rattle.std.specs.Prelude.{◌≡◌, ◌<◌, ◌≤◌, ◌≤ℤ◌, ◌^◌, ℕ, ℤ, pos, negsuc, suc, true, List, length, map, All, FitsSigned}
+use Rattle.std.specs.Prelude.{◌≡◌, ◌<◌, ◌≤◌, ◌≤ℤ◌, ◌^◌, ℕ, ℤ, pos, negsuc, suc, true, List, length}
+use Rattle.std.specs.Prelude.{map, All, FitsSigned}
 use mir.Syntax.{w64}
 use Rattle.bolt_base.specs.declared.limits.Limits.{Limits}
-use Rattle.vertex_expr.specs.Tree.{Tree, literal, param, val, outdeg, weight, attr, id, agg, old, plus, minus, times, over, least, greatest, clamp, choose, nodes, depth}
+use Rattle.vertex_expr.specs.Tree.{Tree, literal, param, val, outdeg, weight, attr, id, agg, old}
+use Rattle.vertex_expr.specs.Tree.{plus, minus, times, over, least, greatest, clamp, choose, nodes}
+use Rattle.vertex_expr.specs.Tree.{depth}
 use Rattle.vertex_expr.specs.Names.{is_name, AreNames}
 use Rattle.vertex_expr.specs.declared.expr.Part.{Part}
 use Rattle.vertex_expr.specs.declared.expr.Part.TheVariants.{Init, Contribute, Apply}
@@ -17,7 +20,8 @@ pub record Scope : Type 0 where
   pub lanes : ℕ
   pub params : List (List ℕ)
 
--- every literal fits, every param and lane that it names is there, and it mentions only what its part may mention
+-- every literal fits, every param and lane that it names is there, and it mentions only what its
+-- part may mention
 abbrev pub IsPrintable : Scope → Tree → Type 0
 IsPrintable s (literal (pos n)) = n < 2 ^ 63
 IsPrintable s (literal (negsuc n)) = suc n ≤ 2 ^ 63
@@ -36,7 +40,8 @@ IsPrintable s (over a b) = IsPrintable s a × IsPrintable s b
 IsPrintable s (least a b) = IsPrintable s a × IsPrintable s b
 IsPrintable s (greatest a b) = IsPrintable s a × IsPrintable s b
 IsPrintable s (clamp x a b) = IsPrintable s x × IsPrintable s a × IsPrintable s b
-IsPrintable s (choose c a b x y) = IsPrintable s a × IsPrintable s b × IsPrintable s x × IsPrintable s y
+IsPrintable s (choose c a b x y) = IsPrintable s a × IsPrintable s b × IsPrintable s x
+    × IsPrintable s y
 
 -- a tree that a text can have in this place
 pub record IsTextTree (s : Scope) (t : Tree) : Type 0 where

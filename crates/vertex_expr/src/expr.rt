@@ -30,7 +30,8 @@ pub enum Compare {
     Equal,
 }
 
-/// An expression over whole numbers. The u32 of `Param` is the place of a param, and that of `Val`, `Agg` and `Old` is a lane.
+/// An expression over whole numbers. The u32 of `Param` is the place of a param, and that of `Val`,
+/// `Agg` and `Old` is a lane.
 #[cycle(expr)]
 #[derive(Drop)]
 pub enum Expr {
@@ -56,8 +57,9 @@ pub enum Expr {
     If(Compare, Operand, Operand, Operand, Operand),
 }
 
-/// An operand, on the heap. Contracts see it as a tree. A bare `Box` would show them its address too, so that two equal
-/// expressions would be different values, and no contract could say that a text reads back as the expression it was made of.
+/// An operand, on the heap. Contracts see it as a tree. A bare `Box` would show them its address
+/// too, so that two equal expressions would be different values, and no contract could say that a
+/// text reads back as the expression it was made of.
 #[cycle(expr)]
 #[derive(Drop)]
 pub struct Operand {

@@ -1,12 +1,14 @@
 // Laws of the definitions that contracts cite. The calls do nothing; their clauses are proved.
-ghost use Rattle.vertex_expr.specs.Laws.{AllAreNumbered, BoxesAreSound, FloorIsGreatest, OnlyMentionedMatters, ProgramsAreKnown, UnbrokenIsSafe};
+ghost use Rattle.vertex_expr.specs.Laws.{AllAreNumbered, BoxesAreSound, FloorIsGreatest};
+ghost use Rattle.vertex_expr.specs.Laws.{OnlyMentionedMatters, ProgramsAreKnown, UnbrokenIsSafe};
 
 /// The floor of a quotient is the greatest whole number that is at most the quotient.
 pub fn floor_is_greatest()
     ensures law { FloorIsGreatest }
 {}
 
-/// On a safe box each node's value lies in its interval and within -2^120 to 2^120, and no divisor is 0.
+/// On a safe box each node's value lies in its interval and within -2^120 to 2^120, and no divisor
+/// is 0.
 pub fn boxes_are_sound()
     ensures law { BoxesAreSound }
 {}
@@ -21,7 +23,8 @@ pub fn all_are_numbered()
     ensures law { AllAreNumbered }
 {}
 
-/// The expressions of a program name only params and lanes that are there, and mention only what has an interval.
+/// The expressions of a program name only params and lanes that are there, and mention only what
+/// has an interval.
 pub fn programs_are_known()
     ensures law { ProgramsAreKnown }
 {}

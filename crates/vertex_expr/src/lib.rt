@@ -1,4 +1,5 @@
-//! Expressions and programs of vertices: what they are, what they mean, in what intervals their values lie, and how they are evaluated.
+//! Expressions and programs of vertices: what they are, what they mean, in what intervals their
+//! values lie, and how they are evaluated.
 #![tactic(auto)]
 
 mod depth;

@@ -1,7 +1,8 @@
 // What an expression mentions.
 ghost use Rattle.std.specs.Prelude.{◌≡◌};
 ghost use Rattle.vertex_expr.specs.Leaf.{is_leaf};
-ghost use Rattle.vertex_expr.specs.Mentions.{any_leaf, mentions_attr, mentions_outdeg, mentions_weight};
+ghost use Rattle.vertex_expr.specs.Mentions.{any_leaf, mentions_attr, mentions_outdeg};
+ghost use Rattle.vertex_expr.specs.Mentions.{mentions_weight};
 ghost use Rattle.vertex_expr.specs.Node.{tree_of};
 
 use crate::expr::Expr;

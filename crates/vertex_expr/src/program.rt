@@ -101,7 +101,8 @@ impl ExprList {
     }
 }
 
-/// What the entries of a program's text say. The ranges and the last three lists have one item per lane.
+/// What the entries of a program's text say. The ranges and the last three lists have one item per
+/// lane.
 #[derive(Drop)]
 pub struct ProgramEntries {
     pub name: Bytes,
@@ -115,7 +116,8 @@ pub struct ProgramEntries {
     pub apply: ExprList,
 }
 
-/// A program. It holds only names, numbers and expressions that a text can have. Contracts see it as its entries.
+/// A program. It holds only names, numbers and expressions that a text can have. Contracts see it
+/// as its entries.
 #[derive(Drop)]
 pub struct Program {
     entries: ProgramEntries,

@@ -1,7 +1,7 @@
 // Vectors worked by hand.
 ghost use Rattle.std.specs.Prelude.{◌≡◌, ◌≤◌, ◌≤ℤ◌, neg_ℤ, pos, [], ◌∷◌};
 ghost use Rattle.vertex_expr.specs.Node.{tree_of};
-ghost use Rattle.vertex_expr.specs.Samples.{label, mixed, rank};
+ghost use Rattle.vertex_expr.specs.Samples.{mixed, rank};
 
 mod samples;
 
@@ -12,7 +12,7 @@ use crate::expr::{Expr, Operand};
 use crate::mentions::{mentions_attr, mentions_outdeg, mentions_weight};
 use crate::program::Program;
 use bolt_base::Lanes;
-use samples::{label_of, mixed_of, rank_program, share_of};
+use samples::{mixed_of, rank_program, share_of};
 use std::test::Fail;
 
 fn lane_of(x: i64) -> Lanes
@@ -61,38 +61,6 @@ fn rank_of(program: &Program, agg: i64) -> i128
     eval(program.entries().apply.at(0), program, &env)
 }
 
-// The share of label 1 at a vertex with this attribute and these sums of shares.
-fn label_at(program: &Program, expr: &Expr, attr: i64, first: i64, second: i64) -> i128
-    requires rank { program.now ≡ rank }
-    requires tree { tree_of expr.now ≡ label }
-    requires attr_least { neg_ℤ (pos 1000) ≤ℤ attr }
-    requires attr_most { attr ≤ℤ pos 1000 }
-    requires first_least { neg_ℤ (pos 1000000000) ≤ℤ first }
-    requires first_most { first ≤ℤ pos 1000000000 }
-    requires second_least { neg_ℤ (pos 1000000000) ≤ℤ second }
-    requires second_most { second ≤ℤ pos 1000000000 }
-{
-    let env = Env {
-        val: Lanes::zeros(1),
-        agg: lanes_of(first, second),
-        old: lane_of(0),
-        outdeg: 0,
-        weight: 0,
-        attr,
-        id: 0,
-    };
-    eval(expr, program, &env)
-}
-
-fn lanes_of(x: i64, y: i64) -> Lanes
-    ensures lanes { result ≡ x ∷ y ∷ [] }
-{
-    let mut lanes = Lanes::zeros(2);
-    lanes.set(0, x);
-    lanes.set(1, y);
-    lanes
-}
-
 // The mixed expression at id 11 and attr 5.
 fn mixed_at(program: &Program, expr: &Expr, old: i64, weight: i64) -> i128
     requires rank { program.now ≡ rank }
@@ -104,7 +72,7 @@ fn mixed_at(program: &Program, expr: &Expr, old: i64, weight: i64) -> i128
 {
     let env = Env {
         val: Lanes::zeros(1),
-        agg: lanes_of(0, 0),
+        agg: Lanes::zeros(1),
         old: lane_of(old),
         outdeg: 0,
         weight,
@@ -145,20 +113,6 @@ fn ranks(rt: HostRuntime) -> Result<(), Fail> {
         rank_of(&program, 1_000_000_000_000_000_000),
         1_000_000_000_000
     );
-    Ok(())
-}
-
-#[test]
-fn labels(rt: HostRuntime) -> Result<(), Fail> {
-    let program = rank_program(rt.alloc())?;
-    let expr = label_of(rt.alloc())?;
-    assert_eq!(rt; label_at(&program, &expr, 1, 0, 0), 1_000_000);
-    assert_eq!(rt; label_at(&program, &expr, 2, 300, 100), 0);
-    assert_eq!(rt; label_at(&program, &expr, 0, 300, 100), 750_000);
-    assert_eq!(rt; label_at(&program, &expr, 0, 1, 2), 333_333);
-    assert_eq!(rt; label_at(&program, &expr, 0, 0, 0), 0);
-    assert_eq!(rt; label_at(&program, &expr, 0, -5, 100), 0);
-    assert_eq!(rt; label_at(&program, &expr, -1, 100, -50), 1_000_000);
     Ok(())
 }
 

@@ -1,17 +1,23 @@
 -- What every draft of a text is like.
-use Rattle.std.proofs.Common.{◌≡◌, w64, ℕ, ℤ, pos, ◌+◌, ◌<◌, ◌≤◌, ◌≤ℤ◌, Bool, true, false, cond, List, [], ◌∷◌, length, Option, Some, None, Result, Ok, Err, refl, sym, ◌∙◌, ap, subst, arith}
+use Rattle.std.proofs.Common.{◌≡◌, w64, ℕ, ℤ, pos, ◌+◌, ◌<◌, ◌≤◌, ◌≤ℤ◌, Bool, true, false, cond}
+use Rattle.std.proofs.Common.{List, [], ◌∷◌, length, Option, Some, None, Result, Ok, Err, refl, sym}
+use Rattle.std.proofs.Common.{◌∙◌, ap, subst, arith}
 use Rattle.std.specs.Prelude.{◌==◌, nat_lt, nat_le, All, FitsSigned}
 use Rattle.std.proofs.lemmas.Bool.Decides.{nat_tests}
 use Rattle.bolt_base.specs.declared.limits.Limits.{Limits}
 use Rattle.vertex_expr.specs.Tree.{Tree}
 use Rattle.vertex_expr.specs.Names.{is_name, AreNames}
-use Rattle.vertex_expr.specs.Writable.{IsWritable, IsWithin, IsRange, IsCombination, IsTextTree, scope_in, names_of, values_of}
-use Rattle.vertex_expr.specs.declared.expr.Part.TheVariants.{Init as InitPart, Contribute as ContributePart, Apply as ApplyPart}
+use Rattle.vertex_expr.specs.Writable.{IsWritable, IsWithin, IsRange, IsCombination, IsTextTree}
+use Rattle.vertex_expr.specs.Writable.{scope_in, names_of, values_of}
+use Rattle.vertex_expr.specs.declared.expr.Part.TheVariants.{Init as InitPart}
+use Rattle.vertex_expr.specs.declared.expr.Part.TheVariants.{Contribute as ContributePart}
+use Rattle.vertex_expr.specs.declared.expr.Part.TheVariants.{Apply as ApplyPart}
 use Rattle.vertex_expr.specs.declared.program.ProgramEntries.{ProgramEntries}
 use Rattle.text_words.specs.declared.error.LangError.{LangError}
 use Rattle.text_words.specs.declared.error.LangError.TheVariants.{Repeat, Missing, TooBig}
 use Rattle.text_words.specs.declared.error.Keyword.{Keyword}
-use Rattle.text_words.specs.declared.error.Keyword.TheVariants.{Param, Lane, Init, Contribute, Apply}
+use Rattle.text_words.specs.declared.error.Keyword.TheVariants.{Param, Lane, Init, Contribute}
+use Rattle.text_words.specs.declared.error.Keyword.TheVariants.{Apply}
 use Rattle.text_words.specs.Fields.{◌>>=◌}
 use Rattle.text_words.proofs.FieldFacts.{On, on_then, on_test}
 use Rattle.vertex_lang.specs.declared.draft.Draft.{Draft}
@@ -75,11 +81,21 @@ record IsInOrder (s o : ℕ) : Type 0 where
   early : 8 ≤ o → s ≤ o + 1
 
 abbrev chosen : Bool → Bool → Bool → Bool → Bool → Bool → Bool → Keyword
-chosen a b c d e f g = cond a Rattle.text_words.specs.declared.error.Keyword.TheVariants.Program (cond b Rattle.text_words.specs.declared.error.Keyword.TheVariants.Vertices (cond c Rattle.text_words.specs.declared.error.Keyword.TheVariants.Degree (cond d Rattle.text_words.specs.declared.error.Keyword.TheVariants.Edges (cond e Rattle.text_words.specs.declared.error.Keyword.TheVariants.Weight (cond f Rattle.text_words.specs.declared.error.Keyword.TheVariants.Attr (cond g Rattle.text_words.specs.declared.error.Keyword.TheVariants.Rounds Rattle.text_words.specs.declared.error.Keyword.TheVariants.Combine))))))
+chosen a b c d e f g =
+    cond a Rattle.text_words.specs.declared.error.Keyword.TheVariants.Program
+    (cond b Rattle.text_words.specs.declared.error.Keyword.TheVariants.Vertices
+    (cond c Rattle.text_words.specs.declared.error.Keyword.TheVariants.Degree
+    (cond d Rattle.text_words.specs.declared.error.Keyword.TheVariants.Edges
+    (cond e Rattle.text_words.specs.declared.error.Keyword.TheVariants.Weight
+    (cond f Rattle.text_words.specs.declared.error.Keyword.TheVariants.Attr
+    (cond g Rattle.text_words.specs.declared.error.Keyword.TheVariants.Rounds
+    Rattle.text_words.specs.declared.error.Keyword.TheVariants.Combine))))))
 
 once_order : (s : ℕ) → s < 8 → order (once_at s) ≡ s
 unfolding once_at
-once_order s few = pick (s == 0) (s == 1) (s == 2) (s == 3) (s == 4) (s == 5) (s == 6) refl refl refl refl refl refl refl
+once_order s few =
+    pick (s == 0) (s == 1) (s == 2) (s == 3) (s == 4) (s == 5) (s == 6) refl refl refl refl refl
+    refl refl
   where
     is : (n m : ℕ) → (n == m) ≡ true → m ≡ n
     is n m e = grind (arith, nat_tests)
@@ -87,10 +103,12 @@ once_order s few = pick (s == 0) (s == 1) (s == 2) (s == 3) (s == 4) (s == 5) (s
     isnt : (n m : ℕ) → (n == m) ≡ false → n ≡ m → ⊥
     isnt n m e f = grind (arith, nat_tests)
 
-    seven : (n : ℕ) → n < 8 → (n == 0) ≡ false → (n == 1) ≡ false → (n == 2) ≡ false → (n == 3) ≡ false → (n == 4) ≡ false → (n == 5) ≡ false → (n == 6) ≡ false → 7 ≡ n
+    seven : (n : ℕ) → n < 8 → (n == 0) ≡ false → (n == 1) ≡ false → (n == 2) ≡ false
+        → (n == 3) ≡ false → (n == 4) ≡ false → (n == 5) ≡ false → (n == 6) ≡ false → 7 ≡ n
     seven n h a b c d e f g = grind (arith, nat_tests)
 
-    pick : (a b c d e f g : Bool) → (s == 0) ≡ a → (s == 1) ≡ b → (s == 2) ≡ c → (s == 3) ≡ d → (s == 4) ≡ e → (s == 5) ≡ f → (s == 6) ≡ g → order (chosen a b c d e f g) ≡ s
+    pick : (a b c d e f g : Bool) → (s == 0) ≡ a → (s == 1) ≡ b → (s == 2) ≡ c → (s == 3) ≡ d
+        → (s == 4) ≡ e → (s == 5) ≡ f → (s == 6) ≡ g → order (chosen a b c d e f g) ≡ s
     pick true b c d e f g h0 h1 h2 h3 h4 h5 h6 = is s 0 h0
     pick false true c d e f g h0 h1 h2 h3 h4 h5 h6 = is s 1 h1
     pick false false true d e f g h0 h1 h2 h3 h4 h5 h6 = is s 2 h2
@@ -98,23 +116,34 @@ once_order s few = pick (s == 0) (s == 1) (s == 2) (s == 3) (s == 4) (s == 5) (s
     pick false false false false true f g h0 h1 h2 h3 h4 h5 h6 = is s 4 h4
     pick false false false false false true g h0 h1 h2 h3 h4 h5 h6 = is s 5 h5
     pick false false false false false false true h0 h1 h2 h3 h4 h5 h6 = is s 6 h6
-    pick false false false false false false false h0 h1 h2 h3 h4 h5 h6 = seven s few h0 h1 h2 h3 h4 h5 h6
+    pick false false false false false false false h0 h1 h2 h3 h4 h5 h6 =
+        seven s few h0 h1 h2 h3 h4 h5 h6
 
 -- what isn't past, and before which nothing is due
-in_order : (d : Draft) (k : Keyword) → is_past d k ≡ false → On (λ _. Unit {0}) (due_before (first_due d) k) → (let o : Result (Unit {0}) LangError = Ok tt in due_before (first_due d) k ≡ o) → IsInOrder d.stage (order k)
+in_order : (d : Draft) (k : Keyword) → is_past d k ≡ false
+    → On (λ _. Unit {0}) (due_before (first_due d) k)
+    → (let o : Result (Unit {0}) LangError = Ok tt in due_before (first_due d) k ≡ o)
+    → IsInOrder d.stage (order k)
 unfolding is_past first_due
 in_order d k new u due = split (nat_lt d.stage 8) refl due
   where
     rest : Option Keyword
-    rest = cond (length d.entries.ranges == 0) (Some Lane) (cond (nat_lt (length d.entries.init) (length d.entries.ranges)) (Some Init) (cond (nat_lt (length d.entries.contribute) (length d.entries.ranges)) (Some Contribute) (cond (nat_lt (length d.entries.apply) (length d.entries.ranges)) (Some Apply) None)))
+    rest =
+        cond (length d.entries.ranges == 0) (Some Lane)
+        (cond (nat_lt (length d.entries.init) (length d.entries.ranges)) (Some Init)
+        (cond (nat_lt (length d.entries.contribute) (length d.entries.ranges)) (Some Contribute)
+        (cond (nat_lt (length d.entries.apply) (length d.entries.ranges)) (Some Apply) None)))
 
-    not_before : (w k : Keyword) → (let o : Result (Unit {0}) LangError = Ok tt in due_before (Some w) k ≡ o) → order k ≤ order w
+    not_before : (w k : Keyword) → (let o : Result (Unit {0}) LangError = Ok tt in due_before
+        (Some w) k ≡ o) → order k ≤ order w
     not_before w k e = test (nat_lt (order w) (order k)) refl e
       where
         low : (a b : ℕ) → nat_lt a b ≡ false → b ≤ a
         low a b e = grind (arith, nat_tests)
 
-        test : (b : Bool) → nat_lt (order w) (order k) ≡ b → (let o : Result (Unit {0}) LangError = Ok tt in cond b (Err (Missing w)) (Ok tt) ≡ o) → order k ≤ order w
+        test : (b : Bool) → nat_lt (order w) (order k) ≡ b
+            → (let o : Result (Unit {0}) LangError = Ok tt in cond b (Err (Missing w)) (Ok tt) ≡ o)
+            → order k ≤ order w
         test true e f = absurd (let no : ⊥ = cc in no)
         test false e f = low (order w) (order k) e
 
@@ -124,26 +153,41 @@ in_order d k new u due = split (nat_lt d.stage 8) refl due
     above : (a b : ℕ) → nat_lt a b ≡ false → b ≤ a
     above a b e = grind (arith, nat_tests)
 
-    passed : (o s : ℕ) → cond (nat_lt (o + 1) s) true (cond (o + 1 == s) (nat_lt o 8) false) ≡ false → (o < 8 → s ≤ o) × (s ≤ o + 1)
+    passed : (o s : ℕ) → cond (nat_lt (o + 1) s) true (cond (o + 1 == s) (nat_lt o 8) false) ≡ false
+        → (o < 8 → s ≤ o) × (s ≤ o + 1)
     passed o s e = (λ h. first o s e h, second o s e)
       where
-        first : (o s : ℕ) → cond (nat_lt (o + 1) s) true (cond (o + 1 == s) (nat_lt o 8) false) ≡ false → o < 8 → s ≤ o
+        first : (o s : ℕ) → cond (nat_lt (o + 1) s) true (cond (o + 1 == s) (nat_lt o 8) false)
+            ≡ false → o < 8 → s ≤ o
         first o s e h = grind (arith, nat_tests)
 
-        second : (o s : ℕ) → cond (nat_lt (o + 1) s) true (cond (o + 1 == s) (nat_lt o 8) false) ≡ false → s ≤ o + 1
+        second : (o s : ℕ) → cond (nat_lt (o + 1) s) true (cond (o + 1 == s) (nat_lt o 8) false)
+            ≡ false → s ≤ o + 1
         second o s e = grind (arith, nat_tests)
 
-    split : (b : Bool) → nat_lt d.stage 8 ≡ b → (let o : Result (Unit {0}) LangError = Ok tt in due_before (cond b (Some (once_at d.stage)) rest) k ≡ o) → IsInOrder d.stage (order k)
+    split : (b : Bool) → nat_lt d.stage 8 ≡ b
+        → (let o : Result (Unit {0}) LangError = Ok tt in due_before
+        (cond b (Some (once_at d.stage)) rest) k ≡ o) → IsInOrder d.stage (order k)
     split true e f =
         let few : d.stage < 8 = below d.stage 8 e in
         let is : order (once_at d.stage) ≡ d.stage = once_order d.stage few in
         let least : order k ≤ order (once_at d.stage) = not_before (once_at d.stage) k f in
         let p = passed (order k) d.stage new in
-        record { once = λ h. let q : d.stage ≤ order k = p.0 h in omega arith; late = λ h. absurd (omega arith); early = λ h. p.1 }
+        record {
+          once = λ h. let q : d.stage ≤ order k = p.0 h in omega arith;
+          late = λ h. absurd
+              (omega arith);
+          early = λ h. p.1;
+        }
     split false e f =
         let many : 8 ≤ d.stage = above d.stage 8 e in
         let p = passed (order k) d.stage new in
-        record { once = λ h. let q : d.stage ≤ order k = p.0 h in absurd (omega arith); late = λ h. many; early = λ h. p.1 }
+        record {
+          once = λ h. let q : d.stage ≤ order k = p.0 h in absurd (omega arith);
+          late = λ h.
+              many;
+          early = λ h. p.1;
+        }
 
 abbrev room_for : Draft → Keyword → ℕ → Result (Unit {0}) LangError
 room_for d k at = cond (is_full d.entries k) (Err (TooBig at)) (Ok tt)
@@ -151,30 +195,37 @@ room_for d k at = cond (is_full d.entries k) (Err (TooBig at)) (Ok tt)
 pub admitted_on : (d : Draft) (k : Keyword) (at : ℕ) → On (λ _. IsAdmitted d k) (admitted d k at)
 unfolding admitted
 admitted_on d k at =
-    on_test (λ _. IsAdmitted d k) (is_past d k) (Err (Repeat at)) (due_before (first_due d) k >>= λ u. room_for d k at) (λ e. tt)
+    on_test (λ _. IsAdmitted d k) (is_past d k) (Err (Repeat at))
+    (due_before (first_due d) k >>= λ u. room_for d k at) (λ e. tt)
     (λ new. from_due (due_before (first_due d) k) refl new)
   where
-    from_due : (o : Result (Unit {0}) LangError) → due_before (first_due d) k ≡ o → is_past d k ≡ false → On (λ _. IsAdmitted d k) (o >>= λ u. room_for d k at)
+    from_due : (o : Result (Unit {0}) LangError) → due_before (first_due d) k ≡ o
+        → is_past d k ≡ false → On (λ _. IsAdmitted d k) (o >>= λ u. room_for d k at)
     from_due (Err x) e new = tt
     from_due (Ok u) e new =
-        let h = in_order d k new (let P : Result (Unit {0}) LangError → Type 0 = λ o. On (λ _. Unit {0}) o in subst P (sym e) tt) e in
-        on_test (λ _. IsAdmitted d k) (is_full d.entries k) (Err (TooBig at)) (Ok tt) (λ f. tt) (λ f. record { once = h.once; late = h.late; early = h.early; room = f })
+        let h =
+        in_order d k new (let P : Result (Unit {0}) LangError
+        → Type 0 = λ o. On (λ _. Unit {0}) o in subst P (sym e) tt) e in
+        on_test (λ _. IsAdmitted d k) (is_full d.entries k) (Err (TooBig at)) (Ok tt) (λ f. tt)
+        (λ f. record { once = h.once; late = h.late; early = h.early; room = f })
 
 -- at the end nothing is due, so the entries are a program's
-skip : (b : Bool) (w : Keyword) (o : Option Keyword) → cond b (Some w) o ≡ None → (b ≡ false) × (o ≡ None)
-skip true w o e = absurd (let no : ⊥ = cc in no)
-skip false w o e = (refl, e)
+cond_none : (b : Bool) (w : Keyword) (o : Option Keyword) → cond b (Some w) o ≡ None
+    → (b ≡ false) × (o ≡ None)
+cond_none true w o e = absurd (let no : ⊥ = cc in no)
+cond_none false w o e = (refl, e)
 
-pub writable : (d : Draft) → IsGood d.stage d.entries → first_due d ≡ None → IsWritable d.entries
+pub good_draft_writable : (d : Draft) → IsGood d.stage d.entries → first_due d ≡ None
+    → IsWritable d.entries
 unfolding first_due
-writable d h due =
+good_draft_writable d h due =
     let g = d.entries in
     let lanes = length g.ranges in
-    let e1 = skip (nat_lt d.stage 8) _ _ due in
-    let e2 = skip (lanes == 0) _ _ e1.1 in
-    let e3 = skip (nat_lt (length g.init) lanes) _ _ e2.1 in
-    let e4 = skip (nat_lt (length g.contribute) lanes) _ _ e3.1 in
-    let e5 = skip (nat_lt (length g.apply) lanes) _ _ e4.1 in
+    let e1 = cond_none (nat_lt d.stage 8) _ _ due in
+    let e2 = cond_none (lanes == 0) _ _ e1.1 in
+    let e3 = cond_none (nat_lt (length g.init) lanes) _ _ e2.1 in
+    let e4 = cond_none (nat_lt (length g.contribute) lanes) _ _ e3.1 in
+    let e5 = cond_none (nat_lt (length g.apply) lanes) _ _ e4.1 in
     let late : 8 ≤ d.stage = above d.stage 8 e1.0 in
     let some : 1 ≤ lanes = positive lanes e2.0 in
     let i : lanes ≤ length g.init = above (length g.init) lanes e3.0 in
@@ -186,7 +237,16 @@ writable d h due =
     let attr = h.begun.attr (omega arith) in
     record {
       name = h.begun.name (omega arith);
-      limits = record { vertices = h.begun.vertices (omega arith); degree = h.begun.degree (omega arith); edges = h.begun.edges (omega arith); weight = h.begun.weight (omega arith); attr = attr.range; attr_least = attr.least; attr_most = attr.most };
+      limits =
+          record {
+            vertices = h.begun.vertices (omega arith);
+            degree = h.begun.degree (omega arith);
+            edges = h.begun.edges (omega arith);
+            weight = h.begun.weight (omega arith);
+            attr = attr.range;
+            attr_least = attr.least;
+            attr_most = attr.most;
+          };
       rounds = h.begun.rounds (omega arith);
       combine = h.begun.combine late;
       few_params = h.params.few;

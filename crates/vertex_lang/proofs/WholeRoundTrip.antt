@@ -1,17 +1,20 @@
 -- The canonical text of a program is read as that program.
-use Rattle.std.proofs.Common.{◌≡◌, ℕ, ◌+◌, ◌<◌, ◌≤◌, Bool, true, false, cond, List, [], ◌∷◌, ◌++◌, length, Option, Some, None, Result, Ok, Err, refl, sym, ◌∙◌, ap, subst, arith}
+use Rattle.std.proofs.Common.{◌≡◌, ℕ, ◌+◌, ◌<◌, ◌≤◌, Bool, true, false, cond, List, [], ◌∷◌, ◌++◌}
+use Rattle.std.proofs.Common.{length, Option, Some, None, Result, Ok, Err, refl, sym, ◌∙◌, ap}
+use Rattle.std.proofs.Common.{subst, arith}
 use Rattle.std.specs.Prelude.{codes, nat_lt}
 use Rattle.std.proofs.lemmas.Bool.Decides.{nat_tests}
 use Rattle.vertex_expr.specs.Writable.{IsWritable, names_of}
 use Rattle.vertex_expr.specs.declared.program.ProgramEntries.{ProgramEntries}
-use Rattle.text_words.specs.Lines.{lines_from}
+use Rattle.lexical.specs.Lines.{lines_from}
 use Rattle.text_words.specs.Fields.{◌>>=◌}
 use Rattle.text_words.specs.declared.error.LangError.{LangError}
 use Rattle.text_words.specs.declared.error.LangError.TheVariants.{TooBig}
 use Rattle.text_words.specs.declared.error.Keyword.{Keyword}
 use Rattle.vertex_lang.specs.declared.draft.Draft.{Draft}
 use Rattle.vertex_lang.specs.Drafts.{blank, lines_read, complete, first_due}
-use Rattle.vertex_lang.specs.Canonical.{ended_lines, once_lines, param_lines, lane_lines, tree_lines, canonical_text}
+use Rattle.vertex_lang.specs.Canonical.{ended_lines, once_lines, param_lines, lane_lines}
+use Rattle.vertex_lang.specs.Canonical.{tree_lines, canonical_text}
 use Rattle.vertex_lang.specs.ProgramOf.{entries_of, fitting, program_of}
 use Rattle.vertex_lang.proofs.LineReads.{Steps, steps-append, ended-append, all_lines}
 use Rattle.vertex_lang.proofs.Admission.{none_due}
@@ -20,7 +23,8 @@ use Rattle.vertex_lang.proofs.OnceReads.{once_read}
 use Rattle.vertex_lang.proofs.ListReads.{draft_of, params_read, lanes_read}
 use Rattle.vertex_lang.proofs.TreeReads.{draft_with, init_read, contribute_read, apply_read}
 
-after_least : {A : Type 0} (low s high : ℕ) (xs : List A) → low ≤ s → low ≤ high → low ≤ after s high xs
+after_least : {A : Type 0} (low s high : ℕ) (xs : List A) → low ≤ s → low ≤ high
+    → low ≤ after s high xs
 after_least low s high [] h i = h
 after_least low s high (x ∷ xs) h i = i
 
@@ -48,7 +52,8 @@ lines_are g =
     sym (ended-append (a ++ b ++ c ++ d ++ e) f
     ∙ ap (λ (l : List ℕ). l ++ ended_lines f) (ended-append (a ++ b ++ c ++ d) e
     ∙ ap (λ (l : List ℕ). l ++ ended_lines e) (ended-append (a ++ b ++ c) d
-    ∙ ap (λ (l : List ℕ). l ++ ended_lines d) (ended-append (a ++ b) c ∙ ap (λ (l : List ℕ). l ++ ended_lines c) (ended-append a b)))))
+    ∙ ap (λ (l : List ℕ). l ++ ended_lines d)
+    (ended-append (a ++ b) c ∙ ap (λ (l : List ℕ). l ++ ended_lines c) (ended-append a b)))))
 
 -- the stages behind the params, the lanes and the three parts
 abbrev stage1 : ProgramEntries → ℕ
@@ -66,7 +71,8 @@ stage4 g = after (stage3 g) 12 g.contribute
 abbrev stage5 : ProgramEntries → ℕ
 stage5 g = after (stage4 g) 13 g.apply
 
-all_read : (g : ProgramEntries) → IsWritable g → Steps blank (all_of g) (draft_with g (stage5 g) g.init g.contribute g.apply)
+all_read : (g : ProgramEntries) → IsWritable g
+    → Steps blank (all_of g) (draft_with g (stage5 g) g.init g.contribute g.apply)
 all_read g h =
     let l1 : 8 ≤ stage1 g = after_least 8 8 9 g.params (omega arith) (omega arith) in
     let m1 : stage1 g ≤ 9 = after_most 8 9 g.params (omega arith) in
@@ -82,34 +88,56 @@ all_read g h =
     let d = tree_lines (codes "init") (names_of g.params) 0 g.init in
     let e = tree_lines (codes "contribute") (names_of g.params) 0 g.contribute in
     let f = tree_lines (codes "apply") (names_of g.params) 0 g.apply in
-    let s1 = steps-append blank (draft_of g 8 [] []) (draft_of g (stage1 g) g.params []) a b (once_read g h) (params_read g h.names h.values h.few_params) in
-    let s2 = steps-append blank (draft_of g (stage1 g) g.params []) (draft_of g (stage2 g) g.params g.ranges) (a ++ b) c s1 (lanes_read g (stage1 g) l1 (omega arith) h.ranges h.lanes.most) in
-    let s3 = steps-append blank (draft_of g (stage2 g) g.params g.ranges) (draft_with g (stage3 g) g.init [] []) (a ++ b ++ c) d s2 (init_read g h (stage2 g) l2 (omega arith)) in
-    let s4 = steps-append blank (draft_with g (stage3 g) g.init [] []) (draft_with g (stage4 g) g.init g.contribute []) (a ++ b ++ c ++ d) e s3 (contribute_read g h (stage3 g) l3 (omega arith)) in
-    steps-append blank (draft_with g (stage4 g) g.init g.contribute []) (draft_with g (stage5 g) g.init g.contribute g.apply) (a ++ b ++ c ++ d ++ e) f s4 (apply_read g h (stage4 g) l4 (omega arith))
+    let s1 =
+    steps-append blank (draft_of g 8 [] []) (draft_of g (stage1 g) g.params []) a b (once_read g h)
+    (params_read g h.names h.values h.few_params) in
+    let s2 =
+    steps-append blank (draft_of g (stage1 g) g.params []) (draft_of g (stage2 g) g.params g.ranges)
+    (a ++ b) c s1 (lanes_read g (stage1 g) l1 (omega arith) h.ranges h.lanes.most) in
+    let s3 =
+    steps-append blank (draft_of g (stage2 g) g.params g.ranges)
+    (draft_with g (stage3 g) g.init [] []) (a ++ b ++ c) d s2
+    (init_read g h (stage2 g) l2 (omega arith)) in
+    let s4 =
+    steps-append blank (draft_with g (stage3 g) g.init [] [])
+    (draft_with g (stage4 g) g.init g.contribute []) (a ++ b ++ c ++ d) e s3
+    (contribute_read g h (stage3 g) l3 (omega arith)) in
+    steps-append blank (draft_with g (stage4 g) g.init g.contribute [])
+    (draft_with g (stage5 g) g.init g.contribute g.apply) (a ++ b ++ c ++ d ++ e) f s4
+    (apply_read g h (stage4 g) l4 (omega arith))
 
 pub entries_back : (g : ProgramEntries) → IsWritable g → entries_of (canonical_text g) ≡ Ok g
 unfolding entries_of
 entries_back g h =
     let d = draft_with g (stage5 g) g.init g.contribute g.apply in
-    let late : 8 ≤ stage5 g = after_least 8 (stage4 g) 13 g.apply (after_least 8 (stage3 g) 12 g.contribute (after_least 8 (stage2 g) 11 g.init (after_least 8 (stage1 g) 10 g.ranges (after_least 8 8 9 g.params (omega arith) (omega arith)) (omega arith)) (omega arith)) (omega arith)) (omega arith) in
+    let late : 8 ≤ stage5 g =
+    after_least 8 (stage4 g) 13 g.apply
+    (after_least 8 (stage3 g) 12 g.contribute
+    (after_least 8 (stage2 g) 11 g.init
+    (after_least 8 (stage1 g) 10 g.ranges
+    (after_least 8 8 9 g.params (omega arith) (omega arith)) (omega arith)) (omega arith))
+    (omega arith)) (omega arith) in
     let i = h.init.each_lane in
     let c = h.contribute.each_lane in
     let a = h.apply.each_lane in
     let some = h.lanes.least in
-    let due : first_due d ≡ None = none_due d late (omega arith) (omega arith) (omega arith) (omega arith) in
-    ap (λ (text : List ℕ). lines_read blank text (lines_from 0 0 text) >>= λ x. complete x (first_due x)) (lines_are g)
-    ∙ ap (λ (o : Result Draft LangError). o >>= λ x. complete x (first_due x)) (all_lines blank d (all_of g) (all_read g h))
+    let due : first_due d ≡ None =
+    none_due d late (omega arith) (omega arith) (omega arith) (omega arith) in
+    ap (λ (text : List ℕ). lines_read blank text (lines_from 0 0 text) >>= λ x. complete x
+    (first_due x)) (lines_are g)
+    ∙ ap (λ (o : Result Draft LangError). o >>= λ x. complete x (first_due x))
+    (all_lines blank d (all_of g) (all_read g h))
     ∙ ap (complete d) due
 
-fits : (n : ℕ) → n ≤ 65536 → nat_lt 65536 n ≡ false
-fits n h = grind (arith, nat_tests)
+size_test : (n : ℕ) → n ≤ 65536 → nat_lt 65536 n ≡ false
+size_test n h = grind (arith, nat_tests)
 
 -- where that text isn't too long, the program of it is this one
-pub program_back : (g : ProgramEntries) → IsWritable g → length (canonical_text g) ≤ 65536 → program_of (canonical_text g) ≡ Ok g
+pub program_back : (g : ProgramEntries) → IsWritable g → length (canonical_text g) ≤ 65536
+    → program_of (canonical_text g) ≡ Ok g
 unfolding program_of
 program_back g h few =
-    let test = fits (length (canonical_text g)) few in
+    let test = size_test (length (canonical_text g)) few in
     ap (λ b. cond b (Err (TooBig 65536)) (entries_of (canonical_text g) >>= fitting)) test
     ∙ ap (λ (o : Result ProgramEntries LangError). o >>= fitting) (entries_back g h)
     ∙ ap (λ b. cond b (Err (TooBig 65536)) (Ok g)) test

@@ -1,4 +1,5 @@
--- The canonical text of a program: its entries in their order, a line each, one space between words.
+-- The canonical text of a program: its entries in their order, a line each, one space between
+-- words.
 use Rattle.std.specs.Prelude.{ℕ, ℤ, ◌+◌, List, [], ◌∷◌, ◌++◌, length, codes, decimal}
 use Rattle.std.specs.Fmt.{signed_decimal}
 use Rattle.bolt_base.specs.declared.limits.Limits.{Limits}
@@ -36,7 +37,9 @@ abbrev pub param_line : NamedParam → List ℕ
 param_line p = codes "param" ++ spaced (p.name ++ spaced (signed_decimal p.value))
 
 abbrev pub lane_line : ℕ → LaneRange → List ℕ
-lane_line k r = codes "lane" ++ spaced (decimal k ++ spaced (signed_decimal r.lo ++ spaced (signed_decimal r.hi)))
+lane_line k r =
+    codes "lane" ++ spaced (decimal k
+    ++ spaced (signed_decimal r.lo ++ spaced (signed_decimal r.hi)))
 
 abbrev pub tree_line : List ℕ → List (List ℕ) → ℕ → Tree → List ℕ
 tree_line w names k t = w ++ spaced (decimal k ++ spaced (text_of names t))
@@ -60,7 +63,9 @@ tree_lines w names k [] = []
 tree_lines w names k (t ∷ ts) = tree_line w names k t ∷ tree_lines w names (k + 1) ts
 
 abbrev pub count_lines : Limits → List (List ℕ)
-count_lines l = number_line (codes "vertices") l.vertices ∷ number_line (codes "degree") l.degree ∷ number_line (codes "edges") l.edges ∷ []
+count_lines l =
+    number_line (codes "vertices") l.vertices ∷ number_line (codes "degree") l.degree
+    ∷ number_line (codes "edges") l.edges ∷ []
 
 abbrev pub weight_line : Limits → List ℕ
 weight_line l = range_line (codes "weight") l.weight_lo l.weight_hi
@@ -70,12 +75,15 @@ attr_line l = range_line (codes "attr") l.attr_lo l.attr_hi
 
 -- the entries that stand once
 abbrev pub once_lines : ProgramEntries → List (List ℕ)
-once_lines g = name_line g.name ∷ (count_lines g.limits ++ weight_line g.limits ∷ attr_line g.limits ∷ number_line (codes "rounds") g.rounds ∷ combine_line g.combine ∷ [])
+once_lines g =
+    name_line g.name ∷ (count_lines g.limits ++ weight_line g.limits ∷ attr_line g.limits
+    ∷ number_line (codes "rounds") g.rounds ∷ combine_line g.combine ∷ [])
 
 -- the canonical text
 unfoldable pub canonical_text : ProgramEntries → List ℕ
 canonical_text g =
-    ended_lines (once_lines g) ++ ended_lines (param_lines g.params) ++ ended_lines (lane_lines 0 g.ranges)
+    ended_lines (once_lines g) ++ ended_lines (param_lines g.params)
+    ++ ended_lines (lane_lines 0 g.ranges)
     ++ ended_lines (tree_lines (codes "init") (names_of g.params) 0 g.init)
     ++ ended_lines (tree_lines (codes "contribute") (names_of g.params) 0 g.contribute)
     ++ ended_lines (tree_lines (codes "apply") (names_of g.params) 0 g.apply)

@@ -2,7 +2,10 @@
 use Rattle.std.specs.Prelude.{ℕ, ◌==◌, if◌then◌else◌, List, Option, Some, None, codes}
 use Rattle.std.specs.Str.{bytes_eq}
 use Rattle.text_words.specs.declared.error.Keyword.{Keyword}
-use Rattle.text_words.specs.declared.error.Keyword.TheVariants.{Program, Vertices, Degree, Edges, Weight, Attr, Rounds, Combine, Param, Lane, Init, Contribute, Apply}
+use Rattle.text_words.specs.declared.error.Keyword.TheVariants.{Program, Vertices, Degree, Edges}
+use Rattle.text_words.specs.declared.error.Keyword.TheVariants.{Weight, Attr, Rounds, Combine}
+use Rattle.text_words.specs.declared.error.Keyword.TheVariants.{Param, Lane, Init, Contribute}
+use Rattle.text_words.specs.declared.error.Keyword.TheVariants.{Apply}
 
 -- the place of a word's entry in the order
 abbrev pub order : Keyword → ℕ
@@ -41,5 +44,6 @@ keyword_of w =
 -- the entry at this place of the order, of the first eight, which stand once
 unfoldable pub once_at : ℕ → Keyword
 once_at k =
-    if k == 0 then Program else if k == 1 then Vertices else if k == 2 then Degree else if k == 3 then Edges
+    if k == 0 then Program else if k == 1 then Vertices else if k == 2 then Degree else if k == 3
+    then Edges
     else if k == 4 then Weight else if k == 5 then Attr else if k == 6 then Rounds else Combine

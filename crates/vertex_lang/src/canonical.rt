@@ -1,10 +1,13 @@
 // The canonical text of a program.
-ghost use Rattle.std.specs.Prelude.{◌≡◌, ◌≤◌, ◌++◌, ◌∷◌, [], length, map, All, codes, IfOk, OnOk, Ok};
+ghost use Rattle.std.specs.Prelude.{◌≡◌, ◌≤◌, ◌++◌, ◌∷◌, [], length, map, All, codes, IfOk, OnOk};
+ghost use Rattle.std.specs.Prelude.{Ok};
 ghost use Rattle.vertex_expr.specs.Node.{tree_of};
 ghost use Rattle.vertex_expr.specs.Writable.{names_of, IsWritable};
 ghost use Rattle.expr_text.specs.PrintingCode.{AreBelow};
 ghost use Rattle.vertex_lang.specs.ProgramOf.{program_of};
-ghost use Rattle.vertex_lang.specs.Canonical.{canonical_text, ended_lines, count_lines, weight_line, attr_line, once_lines, param_lines, lane_lines, tree_lines};
+ghost use Rattle.vertex_lang.specs.Canonical.{canonical_text, ended_lines, count_lines};
+ghost use Rattle.vertex_lang.specs.Canonical.{weight_line, attr_line, once_lines, param_lines};
+ghost use Rattle.vertex_lang.specs.Canonical.{lane_lines, tree_lines};
 
 use crate::lines::{
     append_combine_line, append_lane_line, append_name_line, append_number_line, append_param_line,
@@ -75,7 +78,8 @@ fn append_trees(
 ) -> Result<(), Memory>
     requires few { length exprs.now ≤ 8 }
     requires named { All (λ e. AreBelow (length params.now) (tree_of e)) exprs.now }
-    ensures { OnOk result (out.new ≡ out.old ++ ended_lines (tree_lines word.now (names_of params.now) 0 (map tree_of exprs.now))) }
+    ensures { OnOk result (out.new ≡ out.old
+        ++ ended_lines (tree_lines word.now (names_of params.now) 0 (map tree_of exprs.now))) }
 {
     for (lane, expr) in exprs.iter().enumerate() {
         append_tree_line(out, word, params, lane as u32, expr)?;

@@ -1,8 +1,10 @@
 // What the lines so far say, and which entry may stand next.
 ghost use Rattle.std.specs.Prelude.{◌≡◌, OnOk, false};
-ghost use Rattle.text_words.specs.Says.{Says};
+ghost use Rattle.text_words.specs.Says.{SaysAlways};
 ghost use Rattle.vertex_lang.specs.Entries.{IsSmall};
-ghost use Rattle.vertex_lang.specs.Drafts.{first_due as due_of, is_past as is_past_entry, is_full as is_full_of, admitted as admitted_by, blank as blank_draft};
+ghost use Rattle.vertex_lang.specs.Drafts.{first_due as due_of, is_past as is_past_entry};
+ghost use Rattle.vertex_lang.specs.Drafts.{is_full as is_full_of, admitted as admitted_by};
+ghost use Rattle.vertex_lang.specs.Drafts.{blank as blank_draft};
 
 use crate::keywords::{once_at, order};
 use bolt_base::{Bytes, Limits};
@@ -10,7 +12,8 @@ use std::alloc::Global;
 use text_words::{Keyword, LangError};
 use vertex_expr::{Combine, ExprList, ParamList, ProgramEntries, RangeList};
 
-/// What the lines so far say. The stage is 1 more than the place of the last entry's word in the order, and 0 at the beginning.
+/// What the lines so far say. The stage is 1 more than the place of the last entry's word in the
+/// order, and 0 at the beginning.
 #[derive(Drop)]
 pub struct Draft {
     pub stage: u32,
@@ -97,7 +100,7 @@ fn is_full(entries: &ProgramEntries, keyword: Keyword) -> bool
 /// Whether the entry may stand here.
 #[tactic(auto, unfolding(crate::specs::Drafts::admitted))]
 pub fn admitted(draft: &Draft, keyword: Keyword, at: u32) -> Result<(), LangError>
-    ensures says { Says (λ _. tt) result (admitted_by draft.now keyword at) }
+    ensures says { SaysAlways (λ _. tt) result (admitted_by draft.now keyword at) }
     ensures room { OnOk result (is_full_of draft.now.entries keyword ≡ false) }
 {
     if is_past(draft, keyword) {

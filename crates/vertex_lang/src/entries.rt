@@ -1,26 +1,23 @@
 // What an entry says behind its word, of those that stand once.
-ghost use Rattle.std.specs.Prelude.{◌≡◌, ◌≤◌, ◌<◌, ◌^◌, length, IfOk, Ok, false};
-ghost use Rattle.text_words.specs.Says.{Says};
-ghost use Rattle.text_words.specs.declared.error.Keyword.TheVariants.{Program as ProgramWord, Vertices as VerticesWord, Degree as DegreeWord, Edges as EdgesWord, Weight as WeightWord, Attr as AttrWord, Rounds as RoundsWord, Combine as CombineWord};
+ghost use Rattle.std.specs.Prelude.{◌≡◌, ◌≤◌, ◌<◌, ◌^◌, length, IfOk, false};
+ghost use Rattle.text_words.specs.Says.{Says, SaysAlways};
+ghost use Rattle.text_words.specs.declared.error.Keyword.TheVariants.{Program as ProgramWord};
+ghost use Rattle.text_words.specs.declared.error.Keyword.TheVariants.{Vertices as VerticesWord};
+ghost use Rattle.text_words.specs.declared.error.Keyword.TheVariants.{Degree as DegreeWord};
+ghost use Rattle.text_words.specs.declared.error.Keyword.TheVariants.{Edges as EdgesWord};
+ghost use Rattle.text_words.specs.declared.error.Keyword.TheVariants.{Weight as WeightWord};
+ghost use Rattle.text_words.specs.declared.error.Keyword.TheVariants.{Attr as AttrWord};
+ghost use Rattle.text_words.specs.declared.error.Keyword.TheVariants.{Rounds as RoundsWord};
+ghost use Rattle.text_words.specs.declared.error.Keyword.TheVariants.{Combine as CombineWord};
 ghost use Rattle.vertex_lang.specs.Entries.{entry_at as entry_of_line, IsSmall};
 ghost use Rattle.vertex_lang.specs.Drafts.{is_full as is_full_of};
 
 use crate::lists::{apply_entry, contribute_entry, init_entry, lane_entry, param_entry};
 use crate::ranges::{combine_at, range_at};
 use bolt_base::Bytes;
-use expr_text::append;
 use std::alloc::Global;
 use text_words::{Keyword, LangError, name_at, number_at};
 use vertex_expr::ProgramEntries;
-
-/// Bytes of their own.
-pub fn copied(alloc: Global, bytes: &[u8]) -> Result<Bytes, LangError>
-    ensures { Says (λ b. b) result (Ok bytes.now) }
-{
-    let mut copy = Bytes::new(alloc);
-    append(&mut copy, bytes)?;
-    Ok(copy)
-}
 
 #[tactic(auto, unfolding(crate::specs::Entries::entry_at))]
 fn program_entry(
@@ -38,7 +35,7 @@ fn program_entry(
 {
     let word = name_at(line, from)?;
     let mut entries = entries;
-    entries.name = copied(alloc, word.bytes)?;
+    entries.name = Bytes::from_slice(alloc, word.bytes)?;
     Ok((entries, word.at + word.bytes.len()))
 }
 
@@ -51,7 +48,7 @@ fn vertices_entry(
     requires within { from ≤ length line.now }
     requires short { length line.now < 2 ^ 32 }
     requires small { IsSmall entries }
-    ensures says { Says (λ r. r) result (entry_of_line entries VerticesWord line.now from) }
+    ensures says { SaysAlways (λ r. r) result (entry_of_line entries VerticesWord line.now from) }
     ensures within { IfOk result (λ r. r.1 ≤ length line.now) }
     ensures small { IfOk result (λ r. IsSmall r.0) }
 {
@@ -70,7 +67,7 @@ fn degree_entry(
     requires within { from ≤ length line.now }
     requires short { length line.now < 2 ^ 32 }
     requires small { IsSmall entries }
-    ensures says { Says (λ r. r) result (entry_of_line entries DegreeWord line.now from) }
+    ensures says { SaysAlways (λ r. r) result (entry_of_line entries DegreeWord line.now from) }
     ensures within { IfOk result (λ r. r.1 ≤ length line.now) }
     ensures small { IfOk result (λ r. IsSmall r.0) }
 {
@@ -89,7 +86,7 @@ fn edges_entry(
     requires within { from ≤ length line.now }
     requires short { length line.now < 2 ^ 32 }
     requires small { IsSmall entries }
-    ensures says { Says (λ r. r) result (entry_of_line entries EdgesWord line.now from) }
+    ensures says { SaysAlways (λ r. r) result (entry_of_line entries EdgesWord line.now from) }
     ensures within { IfOk result (λ r. r.1 ≤ length line.now) }
     ensures small { IfOk result (λ r. IsSmall r.0) }
 {
@@ -108,7 +105,7 @@ fn weight_entry(
     requires within { from ≤ length line.now }
     requires short { length line.now < 2 ^ 32 }
     requires small { IsSmall entries }
-    ensures says { Says (λ r. r) result (entry_of_line entries WeightWord line.now from) }
+    ensures says { SaysAlways (λ r. r) result (entry_of_line entries WeightWord line.now from) }
     ensures within { IfOk result (λ r. r.1 ≤ length line.now) }
     ensures small { IfOk result (λ r. IsSmall r.0) }
 {
@@ -128,7 +125,7 @@ fn attr_entry(
     requires within { from ≤ length line.now }
     requires short { length line.now < 2 ^ 32 }
     requires small { IsSmall entries }
-    ensures says { Says (λ r. r) result (entry_of_line entries AttrWord line.now from) }
+    ensures says { SaysAlways (λ r. r) result (entry_of_line entries AttrWord line.now from) }
     ensures within { IfOk result (λ r. r.1 ≤ length line.now) }
     ensures small { IfOk result (λ r. IsSmall r.0) }
 {
@@ -148,7 +145,7 @@ fn rounds_entry(
     requires within { from ≤ length line.now }
     requires short { length line.now < 2 ^ 32 }
     requires small { IsSmall entries }
-    ensures says { Says (λ r. r) result (entry_of_line entries RoundsWord line.now from) }
+    ensures says { SaysAlways (λ r. r) result (entry_of_line entries RoundsWord line.now from) }
     ensures within { IfOk result (λ r. r.1 ≤ length line.now) }
     ensures small { IfOk result (λ r. IsSmall r.0) }
 {
@@ -167,7 +164,7 @@ fn combine_entry(
     requires within { from ≤ length line.now }
     requires short { length line.now < 2 ^ 32 }
     requires small { IsSmall entries }
-    ensures says { Says (λ r. r) result (entry_of_line entries CombineWord line.now from) }
+    ensures says { SaysAlways (λ r. r) result (entry_of_line entries CombineWord line.now from) }
     ensures within { IfOk result (λ r. r.1 ≤ length line.now) }
     ensures small { IfOk result (λ r. IsSmall r.0) }
 {

@@ -1,6 +1,7 @@
 // The words that begin entries, in the order of the entries.
 ghost use Rattle.std.specs.Prelude.{◌≡◌, ◌≤◌};
-ghost use Rattle.vertex_lang.specs.Keywords.{order as order_of, keyword_of as keyword_for, once_at as once_in};
+ghost use Rattle.vertex_lang.specs.Keywords.{order as order_of, keyword_of as keyword_for};
+ghost use Rattle.vertex_lang.specs.Keywords.{once_at as once_in};
 
 use text_words::Keyword;
 

@@ -1,4 +1,5 @@
-//! Program texts both ways: `parse` gives the program of a text or its first refusal, and `print` a program's canonical text.
+//! Program texts both ways: `parse` gives the program of a text or its first refusal, and `print` a
+//! program's canonical text.
 #![tactic(auto)]
 
 mod canonical;

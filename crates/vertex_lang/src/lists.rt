@@ -1,12 +1,17 @@
 // What an entry says behind its word, of those that stand more than once.
 ghost use Rattle.std.specs.Prelude.{◌≡◌, ◌≤◌, ◌<◌, ◌^◌, length, IfOk};
 ghost use Rattle.text_words.specs.Says.{Says};
-ghost use Rattle.text_words.specs.declared.error.Keyword.TheVariants.{Param as ParamWord, Lane as LaneWord, Init as InitWord, Contribute as ContributeWord, Apply as ApplyWord};
+ghost use Rattle.text_words.specs.declared.error.Keyword.TheVariants.{Param as ParamWord};
+ghost use Rattle.text_words.specs.declared.error.Keyword.TheVariants.{Lane as LaneWord};
+ghost use Rattle.text_words.specs.declared.error.Keyword.TheVariants.{Init as InitWord};
+ghost use Rattle.text_words.specs.declared.error.Keyword.TheVariants.{Contribute as ContributeWord};
+ghost use Rattle.text_words.specs.declared.error.Keyword.TheVariants.{Apply as ApplyWord};
 ghost use Rattle.vertex_expr.specs.Node.{tree_of};
-ghost use Rattle.vertex_lang.specs.Entries.{entry_at as entry_of_line, tree_at as tree_of_line, IsSmall};
+ghost use Rattle.vertex_lang.specs.Entries.{entry_at as entry_of_line, tree_at as tree_of_line};
+ghost use Rattle.vertex_lang.specs.Entries.{IsSmall};
 
-use crate::entries::copied;
 use crate::ranges::{index_at, place_at, range_at};
+use bolt_base::Bytes;
 use expr_text::{Scope, is_taken, read_expression};
 use std::alloc::Global;
 use text_words::{Keyword, LangError, name_at, signed_at};
@@ -32,7 +37,7 @@ pub fn param_entry(
         return Err(LangError::Repeat { at: word.at as u32 });
     }
     let (value, end) = signed_at(line, word.at + word.bytes.len(), i64::MIN, i64::MAX)?;
-    let name = copied(alloc, word.bytes)?;
+    let name = Bytes::from_slice(alloc, word.bytes)?;
     let mut entries = entries;
     entries.params.push(NamedParam { name, value })?;
     Ok((entries, end))
@@ -73,15 +78,16 @@ fn tree_at(
     requires within { from ≤ length line.now }
     requires short { length line.now < 2 ^ 32 }
     requires small { IsSmall entries.now }
-    ensures { Says (λ e. tree_of e) result (tree_of_line entries.now part keyword next line.now from) }
+    ensures { Says (λ e. tree_of e) result
+        (tree_of_line entries.now part keyword next line.now from) }
 {
-    let behind = place_at(line, from, keyword, next, entries.ranges.len())?;
+    let end = place_at(line, from, keyword, next, entries.ranges.len())?;
     let scope = Scope {
         part,
         lanes: entries.ranges.len() as u32,
         params: entries.params.as_slice(),
     };
-    read_expression(alloc, &scope, line, behind)
+    read_expression(alloc, &scope, line, end)
 }
 
 #[tactic(auto, unfolding(crate::specs::Entries::entry_at))]

@@ -1,9 +1,12 @@
 // The fields of entries that are numbers.
 ghost use Rattle.std.specs.Prelude.{◌≡◌, ◌≤◌, ◌<◌, ◌^◌, length, IfOk};
-ghost use Rattle.text_words.specs.Says.{Says};
-ghost use Rattle.vertex_lang.specs.Entries.{range_at as range_of_line, combine_at as combine_of_line, index_at as index_of_line, place_at as place_of_line};
+ghost use Rattle.text_words.specs.Says.{SaysAlways};
+ghost use Rattle.vertex_lang.specs.Entries.{range_at as range_of_line};
+ghost use Rattle.vertex_lang.specs.Entries.{combine_at as combine_of_line};
+ghost use Rattle.vertex_lang.specs.Entries.{index_at as index_of_line, place_at as place_of_line};
 
-use text_words::{Keyword, LangError, signed_at, unsigned_of, word_at};
+use lexical::decimal;
+use text_words::{Keyword, LangError, signed_at, word_at};
 use vertex_expr::{Combine, LaneRange};
 
 /// LO and HI, with the greatest LO and the least HI, and the place behind them.
@@ -16,7 +19,7 @@ pub fn range_at(
 ) -> Result<(LaneRange, usize), LangError>
     requires within { from ≤ length line.now }
     requires short { length line.now < 2 ^ 32 }
-    ensures says { Says (λ r. r) result (range_of_line line.now from lo_most hi_least) }
+    ensures says { SaysAlways (λ r. r) result (range_of_line line.now from lo_most hi_least) }
     ensures within { IfOk result (λ r. r.1 ≤ length line.now) }
 {
     let (lo, next) = signed_at(line, from, i64::MIN, lo_most)?;
@@ -29,7 +32,7 @@ pub fn range_at(
 pub fn combine_at(line: &[u8], from: usize) -> Result<(Combine, usize), LangError>
     requires within { from ≤ length line.now }
     requires short { length line.now < 2 ^ 32 }
-    ensures says { Says (λ r. r) result (combine_of_line line.now from) }
+    ensures says { SaysAlways (λ r. r) result (combine_of_line line.now from) }
     ensures within { IfOk result (λ r. r.1 ≤ length line.now) }
 {
     let word = word_at(line, from)?;
@@ -48,16 +51,16 @@ pub fn combine_at(line: &[u8], from: usize) -> Result<(Combine, usize), LangErro
 }
 
 /// The place behind K, which has to be `next`.
-#[tactic(auto, unfolding(crate::specs::Entries::index_at))]
+#[tactic(auto, unfolding(crate::specs::Entries::index_at, text_words::specs::Fields::unsigned_of))]
 pub fn index_at(line: &[u8], from: usize, keyword: Keyword, next: usize) -> Result<usize, LangError>
     requires within { from ≤ length line.now }
     requires short { length line.now < 2 ^ 32 }
-    ensures says { Says (λ r. r) result (index_of_line line.now from keyword next) }
+    ensures says { SaysAlways (λ r. r) result (index_of_line line.now from keyword next) }
     ensures within { IfOk result (λ r. r ≤ length line.now) }
 {
     let word = word_at(line, from)?;
     let at = word.at as u32;
-    let Some(number) = unsigned_of(word.bytes) else {
+    let Some(number) = decimal(word.bytes) else {
         return Err(LangError::Syntax { at });
     };
     if number < next as u64 {
@@ -70,7 +73,7 @@ pub fn index_at(line: &[u8], from: usize, keyword: Keyword, next: usize) -> Resu
 }
 
 /// The place behind K, which has to be a lane and `next`.
-#[tactic(auto, unfolding(crate::specs::Entries::place_at))]
+#[tactic(auto, unfolding(crate::specs::Entries::place_at, text_words::specs::Fields::unsigned_of))]
 pub fn place_at(
     line: &[u8],
     from: usize,
@@ -80,12 +83,12 @@ pub fn place_at(
 ) -> Result<usize, LangError>
     requires within { from ≤ length line.now }
     requires short { length line.now < 2 ^ 32 }
-    ensures says { Says (λ r. r) result (place_of_line line.now from keyword next lanes) }
+    ensures says { SaysAlways (λ r. r) result (place_of_line line.now from keyword next lanes) }
     ensures within { IfOk result (λ r. r ≤ length line.now) }
 {
     let word = word_at(line, from)?;
     let at = word.at as u32;
-    let Some(number) = unsigned_of(word.bytes) else {
+    let Some(number) = decimal(word.bytes) else {
         return Err(LangError::Syntax { at });
     };
     if lanes as u64 <= number {

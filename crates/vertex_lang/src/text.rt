@@ -1,9 +1,10 @@
 // The program of a text.
 ghost use Rattle.std.specs.Prelude.{◌≡◌, ◌≤◌, ◌<◌, ◌^◌, length, IfOk, Ok};
-ghost use Rattle.text_words.specs.Lines.{lines_from};
+ghost use Rattle.lexical.specs.Lines.{lines_from};
 ghost use Rattle.text_words.specs.Says.{Says};
 ghost use Rattle.vertex_lang.specs.Entries.{IsSmall};
-ghost use Rattle.vertex_lang.specs.Drafts.{entered as entered_of, line_step as step_of_line, lines_read, blank as blank_draft};
+ghost use Rattle.vertex_lang.specs.Drafts.{entered as entered_of, line_step as step_of_line};
+ghost use Rattle.vertex_lang.specs.Drafts.{lines_read, blank as blank_draft};
 ghost use Rattle.vertex_lang.specs.Canonical.{canonical_text};
 ghost use Rattle.vertex_lang.specs.ProgramOf.{entries_of as entries_of_text, program_of};
 
@@ -11,8 +12,9 @@ use crate::canonical::print;
 use crate::draft::{Draft, admitted, blank, first_due};
 use crate::entries::entry_at;
 use crate::keywords::{keyword_of, order};
+use lexical::word_from;
 use std::alloc::Global;
-use text_words::{Keyword, LangError, ascii_word, ended_at, line_at, next_word};
+use text_words::{Keyword, LangError, ascii_word, ended_at, line_at};
 use vertex_expr::{Program, ProgramEntries};
 
 /// An entry whose word is known.
@@ -54,7 +56,7 @@ fn line_step(alloc: Global, draft: Draft, line: &[u8], from: usize) -> Result<Dr
     ensures says { Says (λ d. d) result (step_of_line draft line.now from) }
     ensures small { IfOk result (λ d. IsSmall d.entries) }
 {
-    match next_word(line, from) {
+    match word_from(line, from) {
         None => Ok(draft),
         Some(word) => {
             let word = ascii_word(word)?;

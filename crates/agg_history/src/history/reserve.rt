@@ -1,5 +1,6 @@
 // The memory of a commit.
-ghost use Rattle.std.specs.Prelude.{◌≡◌, ◌+◌, ◌<◌, ◌≤◌, ◌^◌, ◌++◌, ◌∷◌, [], ℕ, take, replicate, length, None, IfOk, OnOk, OnErr};
+ghost use Rattle.std.specs.Prelude.{◌≡◌, ◌+◌, ◌<◌, ◌≤◌, ◌^◌, ◌++◌, ◌∷◌, [], ℕ, take, replicate};
+ghost use Rattle.std.specs.Prelude.{length, None, IfOk, OnOk, OnErr};
 ghost use Rattle.bolt_base.specs.Keep.{stored};
 ghost use Rattle.agg_history.specs.Entries.{entry_in, with_entry};
 ghost use Rattle.agg_history.specs.Pruned.{track_of};

@@ -1,7 +1,7 @@
 // The programs that the tests check.
 ghost use Rattle.std.specs.Prelude.{◌≡◌, ◌≤◌, ◌≤ℤ◌, [], pos, length, IfOk};
 ghost use Rattle.vertex_expr.specs.Node.{tree_of};
-ghost use Rattle.vertex_expr.specs.Tree.{over, times};
+ghost use Rattle.vertex_expr.specs.Tree.{over};
 ghost use Rattle.vertex_expr.specs.Writable.{IsTextTree};
 ghost use Rattle.range_check.specs.Samples.{apply_scope, base, contribute_scope};
 
@@ -21,12 +21,6 @@ pub fn quotient(alloc: Global, left: Expr, right: Expr) -> Result<Expr, Memory>
     ensures tree { IfOk result (λ e. tree_of e ≡ over (tree_of left) (tree_of right)) }
 {
     Ok(Expr::Over(Operand::new(alloc, left)?, Operand::new(alloc, right)?))
-}
-
-pub fn product(alloc: Global, left: Expr, right: Expr) -> Result<Expr, Memory>
-    ensures tree { IfOk result (λ e. tree_of e ≡ times (tree_of left) (tree_of right)) }
-{
-    Ok(Expr::Times(Operand::new(alloc, left)?, Operand::new(alloc, right)?))
 }
 
 fn base_name(alloc: Global) -> Result<Bytes, Memory>
@@ -54,7 +48,8 @@ pub fn base(
     requires most { pos 0 ≤ℤ most }
     requires contribution { IsTextTree contribute_scope (tree_of contribution) }
     requires apply { IsTextTree apply_scope (tree_of apply) }
-    ensures base { IfOk result (λ p. p ≡ base degree weight_lo most (tree_of contribution) (tree_of apply)) }
+    ensures base { IfOk result (λ p. p
+        ≡ base degree weight_lo most (tree_of contribution) (tree_of apply)) }
     ensures lanes { IfOk result (λ p. length p.ranges ≡ 1) }
 {
     let mut ranges = RangeList::new(alloc);

@@ -1,7 +1,7 @@
 // The program and the expressions that the tests evaluate.
 ghost use Rattle.std.specs.Prelude.{◌≡◌, IfOk};
 ghost use Rattle.vertex_expr.specs.Node.{tree_of};
-ghost use Rattle.vertex_expr.specs.Samples.{damped, label, mixed, part_of_all, rank, share};
+ghost use Rattle.vertex_expr.specs.Samples.{damped, mixed, rank, share};
 
 use crate::expr::{Compare, Expr, Operand};
 use crate::program::{Combine, ExprList, LaneRange, ParamList, Program, ProgramEntries, RangeList};
@@ -81,60 +81,6 @@ pub fn rank_program(alloc: Global) -> Result<Program, Memory>
         contribute,
         apply,
     }))
-}
-
-// agg[0] * 1000000 / max(agg[0] + agg[1], 1)
-fn part_of_all(alloc: Global) -> Result<Operand, Memory>
-    ensures tree { IfOk result (λ o. o ≡ part_of_all) }
-{
-    let product = Operand::new(
-        alloc,
-        Expr::Times(
-            Operand::new(alloc, Expr::Agg(0))?,
-            literal(alloc, 1_000_000)?,
-        ),
-    )?;
-    let sum = Operand::new(
-        alloc,
-        Expr::Plus(
-            Operand::new(alloc, Expr::Agg(0))?,
-            Operand::new(alloc, Expr::Agg(1))?,
-        ),
-    )?;
-    let divisor = Operand::new(alloc, Expr::Max(sum, literal(alloc, 1)?))?;
-    Operand::new(alloc, Expr::Over(product, divisor))
-}
-
-// if(attr = 1, 1000000, if(0 < attr, 0, clamp(.., 0, 1000000)))
-pub fn label_of(alloc: Global) -> Result<Expr, Memory>
-    ensures tree { IfOk result (λ e. tree_of e ≡ label) }
-{
-    let clamp = Operand::new(
-        alloc,
-        Expr::Clamp(
-            part_of_all(alloc)?,
-            literal(alloc, 0)?,
-            literal(alloc, 1_000_000)?,
-        ),
-    )?;
-    let attr = Operand::new(alloc, Expr::Attr)?;
-    let other = Operand::new(
-        alloc,
-        Expr::If(
-            Compare::Less,
-            literal(alloc, 0)?,
-            attr,
-            literal(alloc, 0)?,
-            clamp,
-        ),
-    )?;
-    Ok(Expr::If(
-        Compare::Equal,
-        Operand::new(alloc, Expr::Attr)?,
-        literal(alloc, 1)?,
-        literal(alloc, 1_000_000)?,
-        other,
-    ))
 }
 
 // if(old[0] <= id, old[0] - weight, min(id, attr))

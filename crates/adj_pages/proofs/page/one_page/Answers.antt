@@ -5,4 +5,6 @@ use Rattle.adj_pages.proofs.IndexLemmas.{no_entries_of_len}
 use Rattle.adj_pages.proofs.page.one_page.Goals as goal
 
 pub returns-else-len-gt0-clause-arcs : goal.returns-else-len-gt0-clause-arcs
-returns-else-len-gt0-clause-arcs c = ap joined c.new-pages.ensures.items ∙ sym (no_entries_of_len c.args.row (let e : finite.len c.args.row ≡ 0 = omega (arith, c.len.ensures, c.if-len-gt0.false) in e))
+returns-else-len-gt0-clause-arcs c = ap joined c.new-pages.ensures.items
+    ∙ sym (no_entries_of_len c.args.row
+    (let e : finite.len c.args.row ≡ 0 = omega (arith, c.len.ensures, c.if-len-gt0.false) in e))

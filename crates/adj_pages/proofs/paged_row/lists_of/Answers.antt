@@ -7,12 +7,17 @@ use Rattle.adj_pages.proofs.PageLemmas.{same_arcs}
 use Rattle.adj_pages.proofs.paged_row.lists_of.Goals as goal
 
 pub of_pages-requires-clause-rising : goal.of_pages-requires-clause-rising
-of_pages-requires-clause-rising c = subst IsRow (sym (ap joined (map-id c.in_ok-rows.rows.items) ∙ c.in_ok-rows.ensures.arcs)) (record { rising = finite.entries_sorted c.args.row })
+of_pages-requires-clause-rising c = subst IsRow
+    (sym (ap joined (map-id c.in_ok-rows.rows.items) ∙ c.in_ok-rows.ensures.arcs))
+    (record { rising = finite.entries_sorted c.args.row })
 
 pub of_pages-requires-2-clause-rising : goal.of_pages-requires-2-clause-rising
-of_pages-requires-2-clause-rising c = subst IsRow (sym (ap joined (map-id c.in_ok-lists.lists.items) ∙ c.in_ok-lists.ensures.arcs)) (record { rising = finite.entries_sorted c.in_ok-pages.pages })
+of_pages-requires-2-clause-rising c = subst IsRow
+    (sym (ap joined (map-id c.in_ok-lists.lists.items) ∙ c.in_ok-lists.ensures.arcs))
+    (record { rising = finite.entries_sorted c.in_ok-pages.pages })
 
 pub returns : goal.returns
 returns c = same_arcs c.in_ok-all.all c.args.row (
     c.in_ok-all.ensures ∙ ap joined (map-id c.in_ok-lists.lists.items) ∙ c.in_ok-lists.ensures.arcs
-    ∙ c.in_ok-pages.ensures ∙ ap joined (map-id c.in_ok-rows.rows.items) ∙ c.in_ok-rows.ensures.arcs)
+    ∙ c.in_ok-pages.ensures ∙ ap joined (map-id c.in_ok-rows.rows.items)
+    ∙ c.in_ok-rows.ensures.arcs)

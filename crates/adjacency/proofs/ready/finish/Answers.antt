@@ -1,13 +1,22 @@
 use Rattle.adjacency.specs.Rows.{weights_of}
 use Rattle.adjacency.specs.declared.ready.Ready.{Ready}
-use Rattle.adjacency.proofs.FinishLemmas.{finished}
+use Rattle.adjacency.proofs.FinishLemmas.{plan_finished}
 use Rattle.adjacency.proofs.ready.finish.Goals as goal
 
 pub returns : goal.returns
 returns g c =
     let p = c.args.plan in
-    let r : Ready = record { attrs = c.in_ok-attrs.attrs; extra = c.extra-extra.result; out = c.into_changes.result; into = c.into_changes-2.result; edges = c.args.plan.edges; net = record { edges = c.in_ok-net.field-0; attrs = c.in_ok-changed.field-0 } } in
-    finished p r (record {
+    let r : Ready = record {
+      attrs = c.in_ok-attrs.attrs;
+      extra = c.extra-extra.result;
+      out =
+          c.into_changes.result;
+      into = c.into_changes-2.result;
+      edges = c.args.plan.edges;
+      net =
+          record { edges = c.in_ok-net.field-0; attrs = c.in_ok-changed.field-0 };
+    } in
+    plan_finished p r (record {
       extra = c.extra-extra.ensures;
       put_attrs = c.in_ok-attrs.ensures.put;
       of_attrs = c.in_ok-attrs.ensures.inside;

@@ -49,7 +49,8 @@ returns-in_err-next-clause-unended g c =
 pub returns-in_err-next-clause-too_long : goal.returns-in_err-next-clause-too_long
 returns-in_err-next-clause-too_long g c =
     let p = err_from_is_err_and c.from_residual.result c.from_residual.ensures.1 in
-    rw (p.1, p.2) (λ is. feed_turns c.in_err-next.field-0.0 _ _ c.in_err-next.ensures.reads.reads.turns is)
+    rw (p.1, p.2) (λ is. feed_turns c.in_err-next.field-0.0 _ _
+    c.in_err-next.ensures.reads.reads.turns is)
 
 pub returns-in_err-next-clause-cause : goal.returns-in_err-next-clause-cause
 returns-in_err-next-clause-cause g c =

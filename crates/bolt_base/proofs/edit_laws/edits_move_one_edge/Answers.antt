@@ -6,5 +6,9 @@ pub returns : goal.returns
 returns c = record {
   addition = addition_one_more;
   cut = cut_one_less;
-  count = λ g e absent. record { count = length_added g e absent; out = outdeg_added g e absent; into = indeg_added g e absent };
+  count = λ g e absent. record {
+    count = length_added g e absent;
+    out = outdeg_added g e absent;
+    into = indeg_added g e absent;
+  };
 }

@@ -5,7 +5,8 @@ use Rattle.bolt_base.proofs.laws.kept_reads_back.Goals as goal
 pub returns : goal.returns
 returns c = record {
   rest = is_rest;
-  least = λ entries n some equal. rest_least entries (rest_at entries) (is_rest entries some) n equal;
+  least = λ entries n some equal. rest_least entries (rest_at entries) (is_rest entries some) n
+      equal;
   only = rest_only;
   back = read_stored;
 }

@@ -8,12 +8,23 @@ use Rattle.bolt_cli.proofs.command.bolt_still.Goals as goal
 pub returns-in-Ok : goal.returns-in-Ok
 returns-in-Ok g c =
     Answers-ok (texts c.args.words.now)
-    (world_of (g.S.Shelf.told c.args.shelf.now) (g.S.Shelf.opened c.args.shelf.now) (g.S.Shelf.faults c.args.shelf.now) (g.K.Sink.written c.args.out.now) (g.K.Sink.faults c.args.out.now))
-    (world_of (g.S.Shelf.told c.still.new.shelf) (g.S.Shelf.opened c.still.new.shelf) (g.S.Shelf.faults c.still.new.shelf) (g.K.Sink.written c.still.new.out) (g.K.Sink.faults c.still.new.out))
+    (world_of (g.S.Shelf.told c.args.shelf.now) (g.S.Shelf.opened c.args.shelf.now)
+    (g.S.Shelf.faults c.args.shelf.now) (g.K.Sink.written c.args.out.now)
+    (g.K.Sink.faults c.args.out.now))
+    (world_of (g.S.Shelf.told c.still.new.shelf) (g.S.Shelf.opened c.still.new.shelf)
+    (g.S.Shelf.faults c.still.new.shelf) (g.K.Sink.written c.still.new.out)
+    (g.K.Sink.faults c.still.new.out))
     c.in-Ok.status c.in-Ok.ensures.conducts c.in-Ok.ensures.decided
 
 pub returns-in-Err : goal.returns-in-Err
 returns-in-Err g c =
-    let old = world_of (g.S.Shelf.told c.args.shelf.now) (g.S.Shelf.opened c.args.shelf.now) (g.S.Shelf.faults c.args.shelf.now) (g.K.Sink.written c.args.out.now) (g.K.Sink.faults c.args.out.now) in
-    let new = world_of (g.S.Shelf.told c.still.new.shelf) (g.S.Shelf.opened c.still.new.shelf) (g.S.Shelf.faults c.still.new.shelf) (g.K.Sink.written c.still.new.out) (g.K.Sink.faults c.still.new.out) in
-    subst (λ (n : ℕ). Answers (texts c.args.words.now) old new n) (sym c.status.ensures) (Answers-err (texts c.args.words.now) old new c.in-Err.stop c.in-Err.ensures.conducts)
+    let old =
+    world_of (g.S.Shelf.told c.args.shelf.now) (g.S.Shelf.opened c.args.shelf.now)
+    (g.S.Shelf.faults c.args.shelf.now) (g.K.Sink.written c.args.out.now)
+    (g.K.Sink.faults c.args.out.now) in
+    let new =
+    world_of (g.S.Shelf.told c.still.new.shelf) (g.S.Shelf.opened c.still.new.shelf)
+    (g.S.Shelf.faults c.still.new.shelf) (g.K.Sink.written c.still.new.out)
+    (g.K.Sink.faults c.still.new.out) in
+    subst (λ (n : ℕ). Answers (texts c.args.words.now) old new n) (sym c.status.ensures)
+    (Answers-err (texts c.args.words.now) old new c.in-Err.stop c.in-Err.ensures.conducts)

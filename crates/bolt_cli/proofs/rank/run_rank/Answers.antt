@@ -20,9 +20,16 @@ returns-in_err-opened-clause-conducts g c =
     let p = err_from_is_err_and c.from_residual.result c.from_residual.ensures.1 in
     rw (p.1, p.2)
     (Conducts-named words c.requires.right _ _ _
-    (Conducts-stopped (λ (r : RankRun). r.progress) (λ (r : RankRun). let n : ℕ = 0 in n) rank_steps (word_at words 3) (opening words) (files_before words) 1 (λ (o : Opened RankRun). let n : ℕ = 1 in n) (opened_with words)
-    (g.S.Shelf.told c.args.shelf.now) (g.S.Shelf.opened c.args.shelf.now) (g.S.Shelf.faults c.args.shelf.now) (g.K.Sink.written c.args.out.now) (g.K.Sink.faults c.args.out.now)
-    (g.S.Shelf.told c.open_rank.new.shelf) (g.S.Shelf.opened c.open_rank.new.shelf) (g.S.Shelf.faults c.open_rank.new.shelf) c.in_err-opened.field-0.0 c.in_err-opened.ensures.reads c.in_err-opened.ensures.reading c.in_err-opened.ensures.cause))
+    (Conducts-stopped (λ (r : RankRun). r.progress) (λ (r : RankRun). let n : ℕ = 0 in n) rank_steps
+    (word_at words 3) (opening words) (files_before words) 1
+    (λ (o : Opened RankRun). let n : ℕ = 1 in n) (opened_with words)
+    (g.S.Shelf.told c.args.shelf.now) (g.S.Shelf.opened c.args.shelf.now)
+    (g.S.Shelf.faults c.args.shelf.now) (g.K.Sink.written c.args.out.now)
+    (g.K.Sink.faults c.args.out.now)
+    (g.S.Shelf.told c.open_rank.new.shelf) (g.S.Shelf.opened c.open_rank.new.shelf)
+    (g.S.Shelf.faults c.open_rank.new.shelf) c.in_err-opened.field-0.0
+    c.in_err-opened.ensures.reads c.in_err-opened.ensures.reading
+    c.in_err-opened.ensures.cause))
 
 pub returns-clause-conducts : goal.returns-clause-conducts
 returns-clause-conducts g c =
@@ -30,13 +37,24 @@ returns-clause-conducts g c =
     let named = rw c.word_at.ensures at c.finish_opened.ensures.conducts in
     let later = rw c.in_ok-opened.ensures.cause at named in
     Conducts-named words c.requires.right _ _ _
-    (Conducts-then _ _ rank_steps (word_at words 3) (opening words) (files_before words) 1 (λ (o : Opened RankRun). let n : ℕ = 1 in n) (opened_with words)
-    (g.S.Shelf.told c.args.shelf.now) (g.S.Shelf.opened c.args.shelf.now) (g.S.Shelf.faults c.args.shelf.now) (g.K.Sink.written c.args.out.now) (g.K.Sink.faults c.args.out.now)
-    (g.S.Shelf.told c.open_rank.new.shelf) (g.S.Shelf.opened c.open_rank.new.shelf) c.in_ok-opened.opened
-    (world_of (g.S.Shelf.told c.finish_opened.new.shelf) (g.S.Shelf.opened c.finish_opened.new.shelf) (g.S.Shelf.faults c.finish_opened.new.shelf) (g.K.Sink.written c.finish_opened.new.out) (g.K.Sink.faults c.finish_opened.new.out)) c.finish_opened.result
-    c.in_ok-opened.ensures.reads c.in_ok-opened.ensures.course (λ (s : ℕ). opened_with-right words c.requires.right s) later c.in_ok-opened.ensures.ready c.finish_opened.ensures.status)
+    (Conducts-then _ _ rank_steps (word_at words 3) (opening words) (files_before words) 1
+    (λ (o : Opened RankRun). let n : ℕ = 1 in n) (opened_with words)
+    (g.S.Shelf.told c.args.shelf.now) (g.S.Shelf.opened c.args.shelf.now)
+    (g.S.Shelf.faults c.args.shelf.now) (g.K.Sink.written c.args.out.now)
+    (g.K.Sink.faults c.args.out.now)
+    (g.S.Shelf.told c.open_rank.new.shelf) (g.S.Shelf.opened c.open_rank.new.shelf)
+    c.in_ok-opened.opened
+    (world_of (g.S.Shelf.told c.finish_opened.new.shelf)
+    (g.S.Shelf.opened c.finish_opened.new.shelf) (g.S.Shelf.faults c.finish_opened.new.shelf)
+    (g.K.Sink.written c.finish_opened.new.out) (g.K.Sink.faults c.finish_opened.new.out))
+    c.finish_opened.result
+    c.in_ok-opened.ensures.reads c.in_ok-opened.ensures.course
+    (λ (s : ℕ). opened_with-right words c.requires.right s) later c.in_ok-opened.ensures.ready
+    c.finish_opened.ensures.status)
 
 pub returns-clause-decided : goal.returns-clause-decided
 returns-clause-decided g c =
     let words = texts c.args.words.now in
-    ok_map c.finish_opened.result (EndsWith c.in_ok-opened.opened) (IsDecided words) (λ s ends. decided-right words c.requires.right s (c.in_ok-opened.ensures.ends s ends)) c.finish_opened.ensures.status
+    ok_map c.finish_opened.result (EndsWith c.in_ok-opened.opened) (IsDecided words)
+    (λ s ends. decided-right words c.requires.right s (c.in_ok-opened.ensures.ends s ends))
+    c.finish_opened.ensures.status

@@ -19,7 +19,14 @@ loop-at-preserved g c =
     let n = c.in_ok-at.field-0 in
     let bytes = c.args.bytes.now in
     record {
-      within = omega (arith, c.in_ok-at.ensures.within, ap length (from bytes c.loop-at.at), length-drop c.loop-at.at bytes, i.within);
-      wrote = subst (Wrote (g.K.Sink.written c.args.sink.now) (g.K.Sink.written c.write.new.self)) (more bytes c.loop-at.at n) (Wrote-then _ _ _ _ _ i.wrote c.in_ok-at.ensures.wrote);
+      within = omega (
+        arith,
+        c.in_ok-at.ensures.within,
+        ap length (from bytes c.loop-at.at),
+        length-drop c.loop-at.at bytes,
+        i.within,
+      );
+      wrote = subst (Wrote (g.K.Sink.written c.args.sink.now) (g.K.Sink.written c.write.new.self))
+          (more bytes c.loop-at.at n) (Wrote-then _ _ _ _ _ i.wrote c.in_ok-at.ensures.wrote);
       calm = c.in_ok-at.ensures.calm ∙ i.calm;
     }

@@ -9,7 +9,9 @@ use Rattle.bolt_io.proofs.whole.read_whole.Goals as goal
 
 pub pieces-init : goal.pieces-init
 pieces-init g c = record {
-  took = subst (λ (l : List ℕ). Took (g.S.Shelf.told c.args.shelf.now) (g.S.Shelf.told c.args.shelf.now) c.args.slot l) (sym c.new-bytes.ensures.items) (Took-none _ c.args.slot);
+  took = subst (λ (l : List ℕ). Took (g.S.Shelf.told c.args.shelf.now)
+      (g.S.Shelf.told c.args.shelf.now) c.args.slot l) (sym c.new-bytes.ensures.items)
+      (Took-none _ c.args.slot);
   within = omega (arith, ap length c.new-bytes.ensures.items);
   opened = search rules;
   calm = search rules;
@@ -17,9 +19,14 @@ pieces-init g c = record {
 
 pub returns-then-n-eq0-clause-took : goal.returns-then-n-eq0-clause-took
 returns-then-n-eq0-clause-took g c =
-    let below = slot_told (g.S.Shelf.told c.args.shelf.now) (g.S.Shelf.opened c.args.shelf.now) c.args.slot (g.met.S.Shelf.tells_slots c.args.shelf.now) c.requires in
-    let told = subst (λ n. g.S.Shelf.told c.read.new.self ≡ option_map (taken_from c.args.slot n) (g.S.Shelf.told c.pieces.shelf)) c.if-n-eq0.true c.in-Ok.ensures.told in
-    let gives = subst (λ n. IfSome (g.S.Shelf.told c.pieces.shelf) (λ t. GivesNext (left t c.args.slot) n c.read.new.buf)) c.if-n-eq0.true c.in-Ok.ensures.bytes in
+    let below = slot_told (g.S.Shelf.told c.args.shelf.now) (g.S.Shelf.opened c.args.shelf.now)
+    c.args.slot (g.met.S.Shelf.tells_slots c.args.shelf.now) c.requires in
+    let told = subst (λ n. g.S.Shelf.told c.read.new.self
+    ≡ option_map (taken_from c.args.slot n) (g.S.Shelf.told c.pieces.shelf)) c.if-n-eq0.true
+    c.in-Ok.ensures.told in
+    let gives = subst (λ n. IfSome (g.S.Shelf.told c.pieces.shelf)
+    (λ t. GivesNext (left t c.args.slot) n c.read.new.buf)) c.if-n-eq0.true
+    c.in-Ok.ensures.bytes in
     (Took-end _ _ _ c.args.slot _ _ below c.pieces.invariant.took told gives).0
 
 pub returns-then-n-eq0-clause-part : goal.returns-then-n-eq0-clause-part
@@ -27,24 +34,42 @@ returns-then-n-eq0-clause-part g c = (c.pieces.bytes.items, returns-then-n-eq0-c
 
 pub pieces-preserved : goal.pieces-preserved
 pieces-preserved g c =
-    let below = slot_told (g.S.Shelf.told c.args.shelf.now) (g.S.Shelf.opened c.args.shelf.now) c.args.slot (g.met.S.Shelf.tells_slots c.args.shelf.now) c.requires in
+    let below = slot_told (g.S.Shelf.told c.args.shelf.now) (g.S.Shelf.opened c.args.shelf.now)
+    c.args.slot (g.met.S.Shelf.tells_slots c.args.shelf.now) c.requires in
     let n = c.in-Ok.n in
     let items = c.in-Ok-extend_from_slice.ensures.items in
     let whole = c.read.auto.buf in
     let in_buf : n ≤ length c.read.new.buf = omega (arith, c.in-Ok.ensures.within, whole) in
-    let room : n ≤ c.min-room.result = omega (arith, c.in-Ok.ensures.within, length-take c.min-room.result c.pieces.buf) in
-    let took = Took-then _ _ _ c.args.slot n _ c.read.new.buf below c.pieces.invariant.took c.in-Ok.ensures.told c.in-Ok.ensures.bytes in_buf in
+    let room : n ≤ c.min-room.result = omega
+    (arith, c.in-Ok.ensures.within, length-take c.min-room.result c.pieces.buf) in
+    let took = Took-then _ _ _ c.args.slot n _ c.read.new.buf below c.pieces.invariant.took
+    c.in-Ok.ensures.told c.in-Ok.ensures.bytes in_buf in
     record {
-      took = subst (λ (l : List ℕ). Took (g.S.Shelf.told c.args.shelf.now) (g.S.Shelf.told c.read.new.self) c.args.slot l) (sym {A = List ℕ} items) took;
-      within = omega (arith, ap length items, length-append c.pieces.bytes.items (take n c.read.new.buf), length-take n c.read.new.buf, room, c.min-room.ensures, c.len-in-pieces.ensures, c.pieces.invariant.within);
+      took = subst (λ (l : List ℕ). Took (g.S.Shelf.told c.args.shelf.now)
+          (g.S.Shelf.told c.read.new.self) c.args.slot l) (sym {A = List ℕ} items) took;
+      within = omega (
+        arith,
+        ap length items,
+        length-append c.pieces.bytes.items
+            (take n c.read.new.buf),
+        length-take n c.read.new.buf,
+        room,
+        c.min-room.ensures,
+        c.len-in-pieces.ensures,
+        c.pieces.invariant.within,
+      );
       opened = c.in-Ok.ensures.opened ∙ c.pieces.invariant.opened;
       calm = c.in-Ok.ensures.calm ∙ c.pieces.invariant.calm;
     }
 
 pub returns-in_default-clause-part : goal.returns-in_default-clause-part
 returns-in_default-clause-part g c =
-    let below = slot_told (g.S.Shelf.told c.args.shelf.now) (g.S.Shelf.opened c.args.shelf.now) c.args.slot (g.met.S.Shelf.tells_slots c.args.shelf.now) c.requires in
+    let below = slot_told (g.S.Shelf.told c.args.shelf.now) (g.S.Shelf.opened c.args.shelf.now)
+    c.args.slot (g.met.S.Shelf.tells_slots c.args.shelf.now) c.requires in
     let n = c.in-Ok.n in
     let whole = c.read.auto.buf in
-    let in_buf : n ≤ length c.read.new.buf = omega (arith, c.in-Ok.ensures.within, whole) in
-    (c.pieces.bytes.items ++ take n c.read.new.buf, Took-then _ _ _ c.args.slot n _ c.read.new.buf below c.pieces.invariant.took c.in-Ok.ensures.told c.in-Ok.ensures.bytes in_buf)
+    let in_buf : n ≤ length c.read.new.buf = omega (arith, c.in-Ok.ensures.within, whole) in (
+      c.pieces.bytes.items ++ take n c.read.new.buf,
+      Took-then _ _ _ c.args.slot n _ c.read.new.buf
+          below c.pieces.invariant.took c.in-Ok.ensures.told c.in-Ok.ensures.bytes in_buf,
+    )

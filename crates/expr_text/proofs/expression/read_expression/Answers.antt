@@ -12,5 +12,8 @@ returns-then-is_shallow-clause-fits c =
     let s = scope_of c.args.scope.now in
     let P : Tree → Type 0 = λ t. IsTextTree s t in
     subst P (sym c.into_expr.ensures.tree)
-    (text_tree s (length c.args.line.now) (tokens_from 0 c.args.from (drop c.args.from c.args.line.now)) c.in_ok-tree.tree c.in_ok-tree.ensures
-    (ap (λ (t : Tree). nat_le (depth t) 32) (sym c.get.ensures.tree) ∙ sym c.is_shallow.ensures.depth ∙ c.if-is_shallow.true))
+    (text_tree s (length c.args.line.now)
+    (tokens_from 0 c.args.from (drop c.args.from c.args.line.now)) c.in_ok-tree.tree
+    c.in_ok-tree.ensures
+    (ap (λ (t : Tree). nat_le (depth t) 32) (sym c.get.ensures.tree)
+    ∙ sym c.is_shallow.ensures.depth ∙ c.if-is_shallow.true))

@@ -1,5 +1,5 @@
-use Rattle.expr_text.proofs.Exactly.{exactly}
+use Rattle.expr_text.proofs.Exactly.{expression_exactly_spelled}
 use Rattle.expr_text.proofs.laws.follows_grammar.Goals as goal
 
 pub returns : goal.returns
-returns c = exactly
+returns c = expression_exactly_spelled

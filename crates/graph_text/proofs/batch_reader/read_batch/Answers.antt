@@ -1,4 +1,5 @@
-use Rattle.std.proofs.Common.{◌≡◌, ℕ, ◌+◌, ◌-◌, ◌≤◌, ◌∙◌, ap, sym, subst, refl, arith, rules, inl, List, [], ◌∷◌, Option, None, Some}
+use Rattle.std.proofs.Common.{◌≡◌, ℕ, ◌+◌, ◌-◌, ◌≤◌, ◌∙◌, ap, sym, subst, refl, arith, rules, inl}
+use Rattle.std.proofs.Common.{List, [], ◌∷◌, Option, None, Some}
 use Rattle.std.specs.Prelude.{IfSome, IfNone, MatchOption, take, ◌<◌}
 use Rattle.std.specs.Option.{option_map}
 use Rattle.bolt_io.specs.declared.whole.TheConstants.{MOST_BYTES}
@@ -6,15 +7,22 @@ use Rattle.bolt_io.proofs.TakenLemmas.{slot_told}
 use Rattle.text_lines.specs.Lines.{seen}
 use Rattle.text_lines.specs.Feed.{Feed, ahead, answered, IsAtEnd, IsFront, IsLastLine, MeetsLimit}
 use Rattle.text_lines.specs.Reading.{FeedReads, IsSpent}
-use Rattle.text_lines.proofs.FeedLemmas.{ahead_front, ended_needs, front_some, front_within, front_unspent, limit_before, limit_not, limit_not_last}
-use Rattle.text_lines.proofs.ReadingLemmas.{SoFar, so_far_none, so_far_on, feed_reads_on, feed_reads_answered, feed_reads_starved, if_more_wanted, if_turns}
+use Rattle.text_lines.proofs.FeedLemmas.{ahead_front, ended_needs, front_some, front_within}
+use Rattle.text_lines.proofs.FeedLemmas.{front_unspent, limit_before, limit_not, limit_not_last}
+use Rattle.text_lines.proofs.ReadingLemmas.{SoFar, so_far_none, so_far_on, feed_reads_on}
+use Rattle.text_lines.proofs.ReadingLemmas.{feed_reads_answered, feed_reads_starved, if_more_wanted}
+use Rattle.text_lines.proofs.ReadingLemmas.{if_turns}
 use Rattle.graph_text.specs.declared.batch_text.BatchText.{BatchText}
 use Rattle.graph_text.specs.declared.batch_text.OpenBatch.{OpenBatch}
 use Rattle.graph_text.specs.declared.stream_lines.StreamLine.TheVariants.{Commit}
 use Rattle.graph_text.specs.StreamText.{stream_line, unfinished}
 use Rattle.graph_text.specs.OpenCode.{IsPaired, with_line, committed}
 use Rattle.graph_text.specs.BatchCode.{NoBatchEnds, IsBatchStuck, IsFirstEnded, batches_ahead}
-use Rattle.graph_text.proofs.BatchLemmas.{EndsAhead, open_on, open_first, open_commit, open_line, open_found, told_alike, ended_at_end, ends_found, ends_fresh, ends_none, ends_more, ends_commit, batch_at_end, none_at_end, no_batch_ends, batch_stuck, short_not_stuck, batch_not_stuck}
+use Rattle.graph_text.proofs.BatchLemmas.{EndsAhead, open_on, open_first, open_commit, open_line}
+use Rattle.graph_text.proofs.BatchLemmas.{open_found, told_alike, ended_at_end, ends_found}
+use Rattle.graph_text.proofs.BatchLemmas.{ends_fresh, ends_none, ends_more, ends_commit}
+use Rattle.graph_text.proofs.BatchLemmas.{batch_at_end, none_at_end, no_batch_ends, batch_stuck}
+use Rattle.graph_text.proofs.BatchLemmas.{short_not_stuck, batch_not_stuck}
 use Rattle.graph_text.proofs.batch_reader.read_batch.Goals as goal
 
 pub lines-init : goal.lines-init
@@ -24,7 +32,9 @@ lines-init g c =
     let new = c.new-open.ensures in
     record {
       so_far = so_far_none _ _ _ _ _ _;
-      read = ap (λ (b : OpenBatch). open_on unfinished b (first.lines + 1) (ahead start first)) new ∙ open_first unfinished (first.lines + 1) (ahead start first);
+      read =
+          ap (λ (b : OpenBatch). open_on unfinished b (first.lines + 1) (ahead start first)) new
+          ∙ open_first unfinished (first.lines + 1) (ahead start first);
       ended = λ most few. ends_fresh start first c.new-open.result most new;
       paired = subst IsPaired (sym new) (record { lines = refl; few = omega arith });
       begun = λ _. ap (λ (b : OpenBatch). b.first_line) new;
@@ -39,9 +49,13 @@ returns-in_err-found-clause-reads g c =
     let f = c.find.new.self in
     let start = g.S.Shelf.told c.args.shelf.now in
     let told = g.S.Shelf.told c.find.new.shelf in
-    let below = slot_told start (g.S.Shelf.opened c.args.shelf.now) first.slot (g.met.S.Shelf.tells_slots c.args.shelf.now) c.requires.slot in
+    let below =
+    slot_told start (g.S.Shelf.opened c.args.shelf.now) first.slot
+    (g.met.S.Shelf.tells_slots c.args.shelf.now) c.requires.slot in
     let e = c.in_err-found.ensures in
-    let all = feed_reads_on g.S.Shelf.told g.S.Shelf.opened g.S.Shelf.faults _ _ _ first c.lines.feed f _ below c.lines.invariant.so_far c.lines.invariant.slot c.lines.invariant.lines e.reads in
+    let all =
+    feed_reads_on g.S.Shelf.told g.S.Shelf.opened g.S.Shelf.faults _ _ _ first c.lines.feed f _
+    below c.lines.invariant.so_far c.lines.invariant.slot c.lines.invariant.lines e.reads in
     search (rules, all)
 
 pub returns-in_err-found-clause-unended : goal.returns-in_err-found-clause-unended
@@ -50,14 +64,27 @@ returns-in_err-found-clause-unended g c =
     let f = c.find.new.self in
     let start = g.S.Shelf.told c.args.shelf.now in
     let told = g.S.Shelf.told c.find.new.shelf in
-    let below = slot_told start (g.S.Shelf.opened c.args.shelf.now) first.slot (g.met.S.Shelf.tells_slots c.args.shelf.now) c.requires.slot in
+    let below =
+    slot_told start (g.S.Shelf.opened c.args.shelf.now) first.slot
+    (g.met.S.Shelf.tells_slots c.args.shelf.now) c.requires.slot in
     let e = c.in_err-found.ensures in
-    let all = feed_reads_on g.S.Shelf.told g.S.Shelf.opened g.S.Shelf.faults _ _ _ first c.lines.feed f _ below c.lines.invariant.so_far c.lines.invariant.slot c.lines.invariant.lines e.reads in
-    let ended : (most : ℕ) → f.taken ≤ most → EndsAhead start told first f c.lines.open most = λ most few.
-    ends_found start (g.S.Shelf.told c.lines.shelf) told first c.lines.feed f c.lines.open most e.lines (e.ended most few) (c.lines.invariant.ended most (let later = e.reads.reads.later in omega arith)) in
-    let alike : option_map (λ _. []) told ≡ (let o : Option (List BatchText) = option_map (λ _. []) start in o) = told_alike [] start told first.slot _ all.reads.takes in
-    let h = if_more_wanted f c.in_err-found.field-0.0 (IfSome start (NoBatchEnds f.taken first)) e.reads.stops
-    (λ none. no_batch_ends start first f.taken (ends_none start told first f c.lines.open f.taken c.lines.invariant.paired alike (ended_needs told f f.taken (omega arith) none) (ended f.taken (omega arith)))) in
+    let all =
+    feed_reads_on g.S.Shelf.told g.S.Shelf.opened g.S.Shelf.faults _ _ _ first c.lines.feed f _
+    below c.lines.invariant.so_far c.lines.invariant.slot c.lines.invariant.lines e.reads in
+    let ended : (most : ℕ) → f.taken ≤ most → EndsAhead start told first f c.lines.open most =
+    λ most few.
+    ends_found start (g.S.Shelf.told c.lines.shelf) told first c.lines.feed f c.lines.open most
+    e.lines (e.ended most few) (c.lines.invariant.ended most
+    (let later = e.reads.reads.later in omega arith)) in
+    let alike : option_map (λ _. []) told
+    ≡ (let o : Option (List BatchText) = option_map (λ _. []) start in o) = told_alike [] start
+    told first.slot _ all.reads.takes in
+    let h =
+    if_more_wanted f c.in_err-found.field-0.0 (IfSome start (NoBatchEnds f.taken first))
+    e.reads.stops
+    (λ none. no_batch_ends start first f.taken
+    (ends_none start told first f c.lines.open f.taken c.lines.invariant.paired alike
+    (ended_needs told f f.taken (omega arith) none) (ended f.taken (omega arith)))) in
     search (rules, h)
 
 pub returns-in_err-found-clause-stuck : goal.returns-in_err-found-clause-stuck
@@ -66,15 +93,28 @@ returns-in_err-found-clause-stuck g c =
     let f = c.find.new.self in
     let start = g.S.Shelf.told c.args.shelf.now in
     let told = g.S.Shelf.told c.find.new.shelf in
-    let below = slot_told start (g.S.Shelf.opened c.args.shelf.now) first.slot (g.met.S.Shelf.tells_slots c.args.shelf.now) c.requires.slot in
+    let below =
+    slot_told start (g.S.Shelf.opened c.args.shelf.now) first.slot
+    (g.met.S.Shelf.tells_slots c.args.shelf.now) c.requires.slot in
     let e = c.in_err-found.ensures in
-    let all = feed_reads_on g.S.Shelf.told g.S.Shelf.opened g.S.Shelf.faults _ _ _ first c.lines.feed f _ below c.lines.invariant.so_far c.lines.invariant.slot c.lines.invariant.lines e.reads in
-    let ended : (most : ℕ) → f.taken ≤ most → EndsAhead start told first f c.lines.open most = λ most few.
-    ends_found start (g.S.Shelf.told c.lines.shelf) told first c.lines.feed f c.lines.open most e.lines (e.ended most few) (c.lines.invariant.ended most (let later = e.reads.reads.later in omega arith)) in
-    let alike : option_map (λ _. []) told ≡ (let o : Option (List BatchText) = option_map (λ _. []) start in o) = told_alike [] start told first.slot _ all.reads.takes in
+    let all =
+    feed_reads_on g.S.Shelf.told g.S.Shelf.opened g.S.Shelf.faults _ _ _ first c.lines.feed f _
+    below c.lines.invariant.so_far c.lines.invariant.slot c.lines.invariant.lines e.reads in
+    let ended : (most : ℕ) → f.taken ≤ most → EndsAhead start told first f c.lines.open most =
+    λ most few.
+    ends_found start (g.S.Shelf.told c.lines.shelf) told first c.lines.feed f c.lines.open most
+    e.lines (e.ended most few) (c.lines.invariant.ended most
+    (let later = e.reads.reads.later in omega arith)) in
+    let alike : option_map (λ _. []) told
+    ≡ (let o : Option (List BatchText) = option_map (λ _. []) start in o) = told_alike [] start
+    told first.slot _ all.reads.takes in
     let h = if_turns f c.in_err-found.field-0.0 (IfSome start (IsBatchStuck first)) e.reads.stops
-    (λ spent. batch_stuck start first (limit_before start told first f below all.slot all.reads.later all.reads.takes spent.all)
-    (no_batch_ends start first MOST_BYTES (ends_none start told first f c.lines.open MOST_BYTES c.lines.invariant.paired alike (ended_needs told f MOST_BYTES (let full = spent.all in omega arith) spent.none) (ended MOST_BYTES e.reads.reads.most)))) in
+    (λ spent. batch_stuck start first
+    (limit_before start told first f below all.slot all.reads.later all.reads.takes spent.all)
+    (no_batch_ends start first MOST_BYTES
+    (ends_none start told first f c.lines.open MOST_BYTES c.lines.invariant.paired alike
+    (ended_needs told f MOST_BYTES (let full = spent.all in omega arith) spent.none)
+    (ended MOST_BYTES e.reads.reads.most)))) in
     search (rules, h)
 
 pub returns-in_default-clause-reads : goal.returns-in_default-clause-reads
@@ -83,9 +123,13 @@ returns-in_default-clause-reads g c =
     let f = c.find.new.self in
     let start = g.S.Shelf.told c.args.shelf.now in
     let told = g.S.Shelf.told c.find.new.shelf in
-    let below = slot_told start (g.S.Shelf.opened c.args.shelf.now) first.slot (g.met.S.Shelf.tells_slots c.args.shelf.now) c.requires.slot in
+    let below =
+    slot_told start (g.S.Shelf.opened c.args.shelf.now) first.slot
+    (g.met.S.Shelf.tells_slots c.args.shelf.now) c.requires.slot in
     let e = c.in_ok-found.ensures in
-    let all = feed_reads_on g.S.Shelf.told g.S.Shelf.opened g.S.Shelf.faults _ _ _ first c.lines.feed f _ below c.lines.invariant.so_far c.lines.invariant.slot c.lines.invariant.lines e.reads in
+    let all =
+    feed_reads_on g.S.Shelf.told g.S.Shelf.opened g.S.Shelf.faults _ _ _ first c.lines.feed f _
+    below c.lines.invariant.so_far c.lines.invariant.slot c.lines.invariant.lines e.reads in
     all
 
 pub returns-in_default-clause-batch : goal.returns-in_default-clause-batch
@@ -94,12 +138,21 @@ returns-in_default-clause-batch g c =
     let f = c.find.new.self in
     let start = g.S.Shelf.told c.args.shelf.now in
     let told = g.S.Shelf.told c.find.new.shelf in
-    let below = slot_told start (g.S.Shelf.opened c.args.shelf.now) first.slot (g.met.S.Shelf.tells_slots c.args.shelf.now) c.requires.slot in
+    let below =
+    slot_told start (g.S.Shelf.opened c.args.shelf.now) first.slot
+    (g.met.S.Shelf.tells_slots c.args.shelf.now) c.requires.slot in
     let e = c.in_ok-found.ensures in
-    let all = feed_reads_on g.S.Shelf.told g.S.Shelf.opened g.S.Shelf.faults _ _ _ first c.lines.feed f _ below c.lines.invariant.so_far c.lines.invariant.slot c.lines.invariant.lines e.reads in
-    let end : IsAtEnd told f = subst (λ r. MatchOption r (IsAtEnd told f) (λ x. IsFront told f x.len x.whole)) c.in_default.is e.line in
-    let read = open_found (g.S.Shelf.told c.lines.shelf) told c.lines.feed f c.lines.open e.lines e.ahead ∙ c.lines.invariant.read in
-    batch_at_end start told first f c.lines.open c.lines.invariant.paired end read c.leave_open.result c.leave_open.ensures.batch
+    let all =
+    feed_reads_on g.S.Shelf.told g.S.Shelf.opened g.S.Shelf.faults _ _ _ first c.lines.feed f _
+    below c.lines.invariant.so_far c.lines.invariant.slot c.lines.invariant.lines e.reads in
+    let end : IsAtEnd told f =
+    subst (λ r. MatchOption r (IsAtEnd told f) (λ x. IsFront told f x.len x.whole)) c.in_default.is
+    e.line in
+    let read =
+    open_found (g.S.Shelf.told c.lines.shelf) told c.lines.feed f c.lines.open e.lines e.ahead
+    ∙ c.lines.invariant.read in
+    batch_at_end start told first f c.lines.open c.lines.invariant.paired end read
+    c.leave_open.result c.leave_open.ensures.batch
 
 pub returns-in_default-clause-none : goal.returns-in_default-clause-none
 returns-in_default-clause-none g c =
@@ -107,12 +160,21 @@ returns-in_default-clause-none g c =
     let f = c.find.new.self in
     let start = g.S.Shelf.told c.args.shelf.now in
     let told = g.S.Shelf.told c.find.new.shelf in
-    let below = slot_told start (g.S.Shelf.opened c.args.shelf.now) first.slot (g.met.S.Shelf.tells_slots c.args.shelf.now) c.requires.slot in
+    let below =
+    slot_told start (g.S.Shelf.opened c.args.shelf.now) first.slot
+    (g.met.S.Shelf.tells_slots c.args.shelf.now) c.requires.slot in
     let e = c.in_ok-found.ensures in
-    let all = feed_reads_on g.S.Shelf.told g.S.Shelf.opened g.S.Shelf.faults _ _ _ first c.lines.feed f _ below c.lines.invariant.so_far c.lines.invariant.slot c.lines.invariant.lines e.reads in
-    let end : IsAtEnd told f = subst (λ r. MatchOption r (IsAtEnd told f) (λ x. IsFront told f x.len x.whole)) c.in_default.is e.line in
-    let read = open_found (g.S.Shelf.told c.lines.shelf) told c.lines.feed f c.lines.open e.lines e.ahead ∙ c.lines.invariant.read in
-    none_at_end start told first f c.lines.open c.lines.invariant.paired end read c.leave_open.result c.leave_open.ensures.batch
+    let all =
+    feed_reads_on g.S.Shelf.told g.S.Shelf.opened g.S.Shelf.faults _ _ _ first c.lines.feed f _
+    below c.lines.invariant.so_far c.lines.invariant.slot c.lines.invariant.lines e.reads in
+    let end : IsAtEnd told f =
+    subst (λ r. MatchOption r (IsAtEnd told f) (λ x. IsFront told f x.len x.whole)) c.in_default.is
+    e.line in
+    let read =
+    open_found (g.S.Shelf.told c.lines.shelf) told c.lines.feed f c.lines.open e.lines e.ahead
+    ∙ c.lines.invariant.read in
+    none_at_end start told first f c.lines.open c.lines.invariant.paired end read
+    c.leave_open.result c.leave_open.ensures.batch
 
 pub returns-in_default-clause-first : goal.returns-in_default-clause-first
 returns-in_default-clause-first g c =
@@ -120,14 +182,27 @@ returns-in_default-clause-first g c =
     let f = c.find.new.self in
     let start = g.S.Shelf.told c.args.shelf.now in
     let told = g.S.Shelf.told c.find.new.shelf in
-    let below = slot_told start (g.S.Shelf.opened c.args.shelf.now) first.slot (g.met.S.Shelf.tells_slots c.args.shelf.now) c.requires.slot in
+    let below =
+    slot_told start (g.S.Shelf.opened c.args.shelf.now) first.slot
+    (g.met.S.Shelf.tells_slots c.args.shelf.now) c.requires.slot in
     let e = c.in_ok-found.ensures in
-    let all = feed_reads_on g.S.Shelf.told g.S.Shelf.opened g.S.Shelf.faults _ _ _ first c.lines.feed f _ below c.lines.invariant.so_far c.lines.invariant.slot c.lines.invariant.lines e.reads in
-    let end : IsAtEnd told f = subst (λ r. MatchOption r (IsAtEnd told f) (λ x. IsFront told f x.len x.whole)) c.in_default.is e.line in
-    let ended : (most : ℕ) → f.taken ≤ most → EndsAhead start told first f c.lines.open most = λ most few.
-    ends_found start (g.S.Shelf.told c.lines.shelf) told first c.lines.feed f c.lines.open most e.lines (e.ended most few) (c.lines.invariant.ended most (let later = e.reads.reads.later in omega arith)) in
-    let alike : option_map (λ _. []) told ≡ (let o : Option (List BatchText) = option_map (λ _. []) start in o) = told_alike [] start told first.slot _ all.reads.takes in
-    each c.leave_open.result (λ b most few. inl (ends_none start told first f c.lines.open most c.lines.invariant.paired alike (ended_at_end told f end most) (ended most few)))
+    let all =
+    feed_reads_on g.S.Shelf.told g.S.Shelf.opened g.S.Shelf.faults _ _ _ first c.lines.feed f _
+    below c.lines.invariant.so_far c.lines.invariant.slot c.lines.invariant.lines e.reads in
+    let end : IsAtEnd told f =
+    subst (λ r. MatchOption r (IsAtEnd told f) (λ x. IsFront told f x.len x.whole)) c.in_default.is
+    e.line in
+    let ended : (most : ℕ) → f.taken ≤ most → EndsAhead start told first f c.lines.open most =
+    λ most few.
+    ends_found start (g.S.Shelf.told c.lines.shelf) told first c.lines.feed f c.lines.open most
+    e.lines (e.ended most few) (c.lines.invariant.ended most
+    (let later = e.reads.reads.later in omega arith)) in
+    let alike : option_map (λ _. []) told
+    ≡ (let o : Option (List BatchText) = option_map (λ _. []) start in o) = told_alike [] start
+    told first.slot _ all.reads.takes in
+    each c.leave_open.result (λ b most few. inl
+    (ends_none start told first f c.lines.open most c.lines.invariant.paired alike
+    (ended_at_end told f end most) (ended most few)))
   where
     each : {P : BatchText → Type 0} (r : Option BatchText) → ((b : BatchText) → P b) → IfSome r P
     each None h = tt
@@ -139,12 +214,19 @@ returns-in_default-clause-not_stuck g c =
     let f = c.find.new.self in
     let start = g.S.Shelf.told c.args.shelf.now in
     let told = g.S.Shelf.told c.find.new.shelf in
-    let below = slot_told start (g.S.Shelf.opened c.args.shelf.now) first.slot (g.met.S.Shelf.tells_slots c.args.shelf.now) c.requires.slot in
+    let below =
+    slot_told start (g.S.Shelf.opened c.args.shelf.now) first.slot
+    (g.met.S.Shelf.tells_slots c.args.shelf.now) c.requires.slot in
     let e = c.in_ok-found.ensures in
-    let all = feed_reads_on g.S.Shelf.told g.S.Shelf.opened g.S.Shelf.faults _ _ _ first c.lines.feed f _ below c.lines.invariant.so_far c.lines.invariant.slot c.lines.invariant.lines e.reads in
-    let end : IsAtEnd told f = subst (λ r. MatchOption r (IsAtEnd told f) (λ x. IsFront told f x.len x.whole)) c.in_default.is e.line in
+    let all =
+    feed_reads_on g.S.Shelf.told g.S.Shelf.opened g.S.Shelf.faults _ _ _ first c.lines.feed f _
+    below c.lines.invariant.so_far c.lines.invariant.slot c.lines.invariant.lines e.reads in
+    let end : IsAtEnd told f =
+    subst (λ r. MatchOption r (IsAtEnd told f) (λ x. IsFront told f x.len x.whole)) c.in_default.is
+    e.line in
     let few = subst (λ r. IfNone r (f.taken < MOST_BYTES)) c.in_default.is e.fewer in
-    short_not_stuck start first (limit_not start told first f below all.slot all.reads.later all.reads.takes few end.1)
+    short_not_stuck start first (limit_not start told first f below all.slot all.reads.later
+    all.reads.takes few end.1)
 
 pub returns-in-Commit-clause-reads : goal.returns-in-Commit-clause-reads
 returns-in-Commit-clause-reads g c =
@@ -152,14 +234,24 @@ returns-in-Commit-clause-reads g c =
     let f = c.find.new.self in
     let start = g.S.Shelf.told c.args.shelf.now in
     let told = g.S.Shelf.told c.find.new.shelf in
-    let below = slot_told start (g.S.Shelf.opened c.args.shelf.now) first.slot (g.met.S.Shelf.tells_slots c.args.shelf.now) c.requires.slot in
+    let below =
+    slot_told start (g.S.Shelf.opened c.args.shelf.now) first.slot
+    (g.met.S.Shelf.tells_slots c.args.shelf.now) c.requires.slot in
     let e = c.in_ok-found.ensures in
-    let all = feed_reads_on g.S.Shelf.told g.S.Shelf.opened g.S.Shelf.faults _ _ _ first c.lines.feed f _ below c.lines.invariant.so_far c.lines.invariant.slot c.lines.invariant.lines e.reads in
+    let all =
+    feed_reads_on g.S.Shelf.told g.S.Shelf.opened g.S.Shelf.faults _ _ _ first c.lines.feed f _
+    below c.lines.invariant.so_far c.lines.invariant.slot c.lines.invariant.lines e.reads in
     let found = c.in-Some.found in
-    let front = subst (λ r. MatchOption r (IsAtEnd told f) (λ x. IsFront told f x.len x.whole)) c.in-Some.is e.line in
-    let line_is : c.stream_line-line.result ≡ stream_line (seen (take found.len f.pending)) = c.stream_line-line.ensures ∙ ap stream_line c.text.ensures in
-    subst (λ (x : Feed). FeedReads g.S.Shelf.told g.S.Shelf.opened g.S.Shelf.faults c.args.shelf.now c.find.new.shelf first x None) (sym c.skip.ensures)
-    (feed_reads_answered g.S.Shelf.told g.S.Shelf.opened g.S.Shelf.faults _ _ first f found.whole (front_some told f found.len found.whole front) (front_within told f found.len found.whole front) all)
+    let front =
+    subst (λ r. MatchOption r (IsAtEnd told f) (λ x. IsFront told f x.len x.whole)) c.in-Some.is
+    e.line in
+    let line_is : c.stream_line-line.result ≡ stream_line (seen (take found.len f.pending)) =
+    c.stream_line-line.ensures ∙ ap stream_line c.text.ensures in
+    subst (λ (x : Feed). FeedReads g.S.Shelf.told g.S.Shelf.opened g.S.Shelf.faults c.args.shelf.now
+    c.find.new.shelf first x None) (sym c.skip.ensures)
+    (feed_reads_answered g.S.Shelf.told g.S.Shelf.opened g.S.Shelf.faults _ _ first f found.whole
+    (front_some told f found.len found.whole front)
+    (front_within told f found.len found.whole front) all)
 
 pub returns-in-Commit-clause-batch : goal.returns-in-Commit-clause-batch
 returns-in-Commit-clause-batch g c =
@@ -167,20 +259,34 @@ returns-in-Commit-clause-batch g c =
     let f = c.find.new.self in
     let start = g.S.Shelf.told c.args.shelf.now in
     let told = g.S.Shelf.told c.find.new.shelf in
-    let below = slot_told start (g.S.Shelf.opened c.args.shelf.now) first.slot (g.met.S.Shelf.tells_slots c.args.shelf.now) c.requires.slot in
+    let below =
+    slot_told start (g.S.Shelf.opened c.args.shelf.now) first.slot
+    (g.met.S.Shelf.tells_slots c.args.shelf.now) c.requires.slot in
     let e = c.in_ok-found.ensures in
-    let all = feed_reads_on g.S.Shelf.told g.S.Shelf.opened g.S.Shelf.faults _ _ _ first c.lines.feed f _ below c.lines.invariant.so_far c.lines.invariant.slot c.lines.invariant.lines e.reads in
+    let all =
+    feed_reads_on g.S.Shelf.told g.S.Shelf.opened g.S.Shelf.faults _ _ _ first c.lines.feed f _
+    below c.lines.invariant.so_far c.lines.invariant.slot c.lines.invariant.lines e.reads in
     let found = c.in-Some.found in
-    let front = subst (λ r. MatchOption r (IsAtEnd told f) (λ x. IsFront told f x.len x.whole)) c.in-Some.is e.line in
-    let line_is : c.stream_line-line.result ≡ stream_line (seen (take found.len f.pending)) = c.stream_line-line.ensures ∙ ap stream_line c.text.ensures in
-    let read = open_found (g.S.Shelf.told c.lines.shelf) told c.lines.feed f c.lines.open e.lines e.ahead ∙ c.lines.invariant.read in
+    let front =
+    subst (λ r. MatchOption r (IsAtEnd told f) (λ x. IsFront told f x.len x.whole)) c.in-Some.is
+    e.line in
+    let line_is : c.stream_line-line.result ≡ stream_line (seen (take found.len f.pending)) =
+    c.stream_line-line.ensures ∙ ap stream_line c.text.ensures in
+    let read =
+    open_found (g.S.Shelf.told c.lines.shelf) told c.lines.feed f c.lines.open e.lines e.ahead
+    ∙ c.lines.invariant.read in
     let commit = sym line_is ∙ c.in-Commit.is in
     let number : c.lines-number.result ≡ f.lines = c.lines-number.ensures.value in
-    let batch_is : c.commit.result ≡ committed c.lines.open (f.lines + 1) = c.commit.ensures.batch ∙ ap (λ (n : ℕ). committed c.lines.open (n + 1)) number in
+    let batch_is : c.commit.result ≡ committed c.lines.open (f.lines + 1) =
+    c.commit.ensures.batch ∙ ap (λ (n : ℕ). committed c.lines.open (n + 1)) number in
     sym read
-    ∙ open_commit unfinished c.lines.open (f.lines + 1) (seen (take found.len f.pending)) (ahead told f) (ahead told (answered found.whole f)) c.lines.invariant.paired (ahead_front told f found.len found.whole front) commit
-    ∙ ap (λ (x : BatchText). option_map (λ rest. x ∷ rest) (batches_ahead told (answered found.whole f))) (sym batch_is)
-    ∙ ap (λ (x : Feed). option_map (λ rest. c.commit.result ∷ rest) (batches_ahead told x)) (sym c.skip.ensures)
+    ∙ open_commit unfinished c.lines.open (f.lines + 1) (seen (take found.len f.pending))
+    (ahead told f) (ahead told (answered found.whole f)) c.lines.invariant.paired
+    (ahead_front told f found.len found.whole front) commit
+    ∙ ap (λ (x : BatchText). option_map (λ rest. x ∷ rest)
+    (batches_ahead told (answered found.whole f))) (sym batch_is)
+    ∙ ap (λ (x : Feed). option_map (λ rest. c.commit.result ∷ rest) (batches_ahead told x))
+    (sym c.skip.ensures)
 
 pub returns-in-Commit-clause-first : goal.returns-in-Commit-clause-first
 returns-in-Commit-clause-first g c =
@@ -188,23 +294,42 @@ returns-in-Commit-clause-first g c =
     let f = c.find.new.self in
     let start = g.S.Shelf.told c.args.shelf.now in
     let told = g.S.Shelf.told c.find.new.shelf in
-    let below = slot_told start (g.S.Shelf.opened c.args.shelf.now) first.slot (g.met.S.Shelf.tells_slots c.args.shelf.now) c.requires.slot in
+    let below =
+    slot_told start (g.S.Shelf.opened c.args.shelf.now) first.slot
+    (g.met.S.Shelf.tells_slots c.args.shelf.now) c.requires.slot in
     let e = c.in_ok-found.ensures in
-    let all = feed_reads_on g.S.Shelf.told g.S.Shelf.opened g.S.Shelf.faults _ _ _ first c.lines.feed f _ below c.lines.invariant.so_far c.lines.invariant.slot c.lines.invariant.lines e.reads in
+    let all =
+    feed_reads_on g.S.Shelf.told g.S.Shelf.opened g.S.Shelf.faults _ _ _ first c.lines.feed f _
+    below c.lines.invariant.so_far c.lines.invariant.slot c.lines.invariant.lines e.reads in
     let found = c.in-Some.found in
-    let front = subst (λ r. MatchOption r (IsAtEnd told f) (λ x. IsFront told f x.len x.whole)) c.in-Some.is e.line in
-    let line_is : c.stream_line-line.result ≡ stream_line (seen (take found.len f.pending)) = c.stream_line-line.ensures ∙ ap stream_line c.text.ensures in
-    let ended : (most : ℕ) → f.taken ≤ most → EndsAhead start told first f c.lines.open most = λ most few.
-    ends_found start (g.S.Shelf.told c.lines.shelf) told first c.lines.feed f c.lines.open most e.lines (e.ended most few) (c.lines.invariant.ended most (let later = e.reads.reads.later in omega arith)) in
-    let alike : option_map (λ _. []) told ≡ (let o : Option (List BatchText) = option_map (λ _. []) start in o) = told_alike [] start told first.slot _ all.reads.takes in
-    let short : IsLastLine told f found.len found.whole → IfSome start (λ t. ¬ MeetsLimit first t) = limit_not_last start told first f below all.slot all.reads.later all.reads.takes found.len found.whole in
+    let front =
+    subst (λ r. MatchOption r (IsAtEnd told f) (λ x. IsFront told f x.len x.whole)) c.in-Some.is
+    e.line in
+    let line_is : c.stream_line-line.result ≡ stream_line (seen (take found.len f.pending)) =
+    c.stream_line-line.ensures ∙ ap stream_line c.text.ensures in
+    let ended : (most : ℕ) → f.taken ≤ most → EndsAhead start told first f c.lines.open most =
+    λ most few.
+    ends_found start (g.S.Shelf.told c.lines.shelf) told first c.lines.feed f c.lines.open most
+    e.lines (e.ended most few) (c.lines.invariant.ended most
+    (let later = e.reads.reads.later in omega arith)) in
+    let alike : option_map (λ _. []) told
+    ≡ (let o : Option (List BatchText) = option_map (λ _. []) start in o) = told_alike [] start
+    told first.slot _ all.reads.takes in
+    let short : IsLastLine told f found.len found.whole → IfSome start (λ t. ¬ MeetsLimit first t) =
+    limit_not_last start told first f below all.slot all.reads.later all.reads.takes found.len
+    found.whole in
     let commit = sym line_is ∙ c.in-Commit.is in
     let number : c.lines-number.result ≡ f.lines = c.lines-number.ensures.value in
-    let batch_is : c.commit.result ≡ committed c.lines.open (f.lines + 1) = c.commit.ensures.batch ∙ ap (λ (n : ℕ). committed c.lines.open (n + 1)) number in
+    let batch_is : c.commit.result ≡ committed c.lines.open (f.lines + 1) =
+    c.commit.ensures.batch ∙ ap (λ (n : ℕ). committed c.lines.open (n + 1)) number in
     λ most few.
     let skipped = ap (λ (x : Feed). x.taken) c.skip.ensures in
-    let h = ends_commit start told first f c.lines.open most c.lines.invariant.paired alike found.len found.whole short front commit (ended most (omega arith)) in
-    subst (λ (x : Feed). IsFirstEnded c.commit.result most start told first x) (sym c.skip.ensures) (subst (λ (y : BatchText). IsFirstEnded y most start told first (answered found.whole f)) (sym batch_is) h)
+    let h =
+    ends_commit start told first f c.lines.open most c.lines.invariant.paired alike found.len
+    found.whole short front commit (ended most (omega arith)) in
+    subst (λ (x : Feed). IsFirstEnded c.commit.result most start told first x) (sym c.skip.ensures)
+    (subst (λ (y : BatchText). IsFirstEnded y most start told first (answered found.whole f))
+    (sym batch_is) h)
 
 pub returns-in-Commit-clause-not_stuck : goal.returns-in-Commit-clause-not_stuck
 returns-in-Commit-clause-not_stuck g c =
@@ -212,18 +337,33 @@ returns-in-Commit-clause-not_stuck g c =
     let f = c.find.new.self in
     let start = g.S.Shelf.told c.args.shelf.now in
     let told = g.S.Shelf.told c.find.new.shelf in
-    let below = slot_told start (g.S.Shelf.opened c.args.shelf.now) first.slot (g.met.S.Shelf.tells_slots c.args.shelf.now) c.requires.slot in
+    let below =
+    slot_told start (g.S.Shelf.opened c.args.shelf.now) first.slot
+    (g.met.S.Shelf.tells_slots c.args.shelf.now) c.requires.slot in
     let e = c.in_ok-found.ensures in
-    let all = feed_reads_on g.S.Shelf.told g.S.Shelf.opened g.S.Shelf.faults _ _ _ first c.lines.feed f _ below c.lines.invariant.so_far c.lines.invariant.slot c.lines.invariant.lines e.reads in
+    let all =
+    feed_reads_on g.S.Shelf.told g.S.Shelf.opened g.S.Shelf.faults _ _ _ first c.lines.feed f _
+    below c.lines.invariant.so_far c.lines.invariant.slot c.lines.invariant.lines e.reads in
     let found = c.in-Some.found in
-    let front = subst (λ r. MatchOption r (IsAtEnd told f) (λ x. IsFront told f x.len x.whole)) c.in-Some.is e.line in
-    let line_is : c.stream_line-line.result ≡ stream_line (seen (take found.len f.pending)) = c.stream_line-line.ensures ∙ ap stream_line c.text.ensures in
-    let ended : (most : ℕ) → f.taken ≤ most → EndsAhead start told first f c.lines.open most = λ most few.
-    ends_found start (g.S.Shelf.told c.lines.shelf) told first c.lines.feed f c.lines.open most e.lines (e.ended most few) (c.lines.invariant.ended most (let later = e.reads.reads.later in omega arith)) in
-    let alike : option_map (λ _. []) told ≡ (let o : Option (List BatchText) = option_map (λ _. []) start in o) = told_alike [] start told first.slot _ all.reads.takes in
-    let short : IsLastLine told f found.len found.whole → IfSome start (λ t. ¬ MeetsLimit first t) = limit_not_last start told first f below all.slot all.reads.later all.reads.takes found.len found.whole in
+    let front =
+    subst (λ r. MatchOption r (IsAtEnd told f) (λ x. IsFront told f x.len x.whole)) c.in-Some.is
+    e.line in
+    let line_is : c.stream_line-line.result ≡ stream_line (seen (take found.len f.pending)) =
+    c.stream_line-line.ensures ∙ ap stream_line c.text.ensures in
+    let ended : (most : ℕ) → f.taken ≤ most → EndsAhead start told first f c.lines.open most =
+    λ most few.
+    ends_found start (g.S.Shelf.told c.lines.shelf) told first c.lines.feed f c.lines.open most
+    e.lines (e.ended most few) (c.lines.invariant.ended most
+    (let later = e.reads.reads.later in omega arith)) in
+    let alike : option_map (λ _. []) told
+    ≡ (let o : Option (List BatchText) = option_map (λ _. []) start in o) = told_alike [] start
+    told first.slot _ all.reads.takes in
+    let short : IsLastLine told f found.len found.whole → IfSome start (λ t. ¬ MeetsLimit first t) =
+    limit_not_last start told first f below all.slot all.reads.later all.reads.takes found.len
+    found.whole in
     let commit = sym line_is ∙ c.in-Commit.is in
-    batch_not_stuck start told first f c.lines.open found.len found.whole c.lines.invariant.paired short front commit (ended MOST_BYTES e.reads.reads.most)
+    batch_not_stuck start told first f c.lines.open found.len found.whole c.lines.invariant.paired
+    short front commit (ended MOST_BYTES e.reads.reads.most)
 
 pub returns-in_err-take_line-clause-reads : goal.returns-in_err-take_line-clause-reads
 returns-in_err-take_line-clause-reads g c =
@@ -231,13 +371,22 @@ returns-in_err-take_line-clause-reads g c =
     let f = c.find.new.self in
     let start = g.S.Shelf.told c.args.shelf.now in
     let told = g.S.Shelf.told c.find.new.shelf in
-    let below = slot_told start (g.S.Shelf.opened c.args.shelf.now) first.slot (g.met.S.Shelf.tells_slots c.args.shelf.now) c.requires.slot in
+    let below =
+    slot_told start (g.S.Shelf.opened c.args.shelf.now) first.slot
+    (g.met.S.Shelf.tells_slots c.args.shelf.now) c.requires.slot in
     let e = c.in_ok-found.ensures in
-    let all = feed_reads_on g.S.Shelf.told g.S.Shelf.opened g.S.Shelf.faults _ _ _ first c.lines.feed f _ below c.lines.invariant.so_far c.lines.invariant.slot c.lines.invariant.lines e.reads in
+    let all =
+    feed_reads_on g.S.Shelf.told g.S.Shelf.opened g.S.Shelf.faults _ _ _ first c.lines.feed f _
+    below c.lines.invariant.so_far c.lines.invariant.slot c.lines.invariant.lines e.reads in
     let found = c.in-Some.found in
-    let front = subst (λ r. MatchOption r (IsAtEnd told f) (λ x. IsFront told f x.len x.whole)) c.in-Some.is e.line in
-    let line_is : c.stream_line-line.result ≡ stream_line (seen (take found.len f.pending)) = c.stream_line-line.ensures ∙ ap stream_line c.text.ensures in
-    let h = feed_reads_starved g.S.Shelf.told g.S.Shelf.opened g.S.Shelf.faults _ _ first f (front_unspent told f found.len found.whole front) all in
+    let front =
+    subst (λ r. MatchOption r (IsAtEnd told f) (λ x. IsFront told f x.len x.whole)) c.in-Some.is
+    e.line in
+    let line_is : c.stream_line-line.result ≡ stream_line (seen (take found.len f.pending)) =
+    c.stream_line-line.ensures ∙ ap stream_line c.text.ensures in
+    let h =
+    feed_reads_starved g.S.Shelf.told g.S.Shelf.opened g.S.Shelf.faults _ _ first f
+    (front_unspent told f found.len found.whole front) all in
     search (rules, h)
 
 pub lines-preserved : goal.lines-preserved
@@ -246,37 +395,70 @@ lines-preserved g c =
     let f = c.find.new.self in
     let start = g.S.Shelf.told c.args.shelf.now in
     let told = g.S.Shelf.told c.find.new.shelf in
-    let below = slot_told start (g.S.Shelf.opened c.args.shelf.now) first.slot (g.met.S.Shelf.tells_slots c.args.shelf.now) c.requires.slot in
+    let below =
+    slot_told start (g.S.Shelf.opened c.args.shelf.now) first.slot
+    (g.met.S.Shelf.tells_slots c.args.shelf.now) c.requires.slot in
     let e = c.in_ok-found.ensures in
-    let all = feed_reads_on g.S.Shelf.told g.S.Shelf.opened g.S.Shelf.faults _ _ _ first c.lines.feed f _ below c.lines.invariant.so_far c.lines.invariant.slot c.lines.invariant.lines e.reads in
+    let all =
+    feed_reads_on g.S.Shelf.told g.S.Shelf.opened g.S.Shelf.faults _ _ _ first c.lines.feed f _
+    below c.lines.invariant.so_far c.lines.invariant.slot c.lines.invariant.lines e.reads in
     let found = c.in-Some.found in
-    let front = subst (λ r. MatchOption r (IsAtEnd told f) (λ x. IsFront told f x.len x.whole)) c.in-Some.is e.line in
-    let line_is : c.stream_line-line.result ≡ stream_line (seen (take found.len f.pending)) = c.stream_line-line.ensures ∙ ap stream_line c.text.ensures in
-    let read = open_found (g.S.Shelf.told c.lines.shelf) told c.lines.feed f c.lines.open e.lines e.ahead ∙ c.lines.invariant.read in
-    let ended : (most : ℕ) → f.taken ≤ most → EndsAhead start told first f c.lines.open most = λ most few.
-    ends_found start (g.S.Shelf.told c.lines.shelf) told first c.lines.feed f c.lines.open most e.lines (e.ended most few) (c.lines.invariant.ended most (let later = e.reads.reads.later in omega arith)) in
-    let alike : option_map (λ _. []) told ≡ (let o : Option (List BatchText) = option_map (λ _. []) start in o) = told_alike [] start told first.slot _ all.reads.takes in
-    let short : IsLastLine told f found.len found.whole → IfSome start (λ t. ¬ MeetsLimit first t) = limit_not_last start told first f below all.slot all.reads.later all.reads.takes found.len found.whole in
+    let front =
+    subst (λ r. MatchOption r (IsAtEnd told f) (λ x. IsFront told f x.len x.whole)) c.in-Some.is
+    e.line in
+    let line_is : c.stream_line-line.result ≡ stream_line (seen (take found.len f.pending)) =
+    c.stream_line-line.ensures ∙ ap stream_line c.text.ensures in
+    let read =
+    open_found (g.S.Shelf.told c.lines.shelf) told c.lines.feed f c.lines.open e.lines e.ahead
+    ∙ c.lines.invariant.read in
+    let ended : (most : ℕ) → f.taken ≤ most → EndsAhead start told first f c.lines.open most =
+    λ most few.
+    ends_found start (g.S.Shelf.told c.lines.shelf) told first c.lines.feed f c.lines.open most
+    e.lines (e.ended most few) (c.lines.invariant.ended most
+    (let later = e.reads.reads.later in omega arith)) in
+    let alike : option_map (λ _. []) told
+    ≡ (let o : Option (List BatchText) = option_map (λ _. []) start in o) = told_alike [] start
+    told first.slot _ all.reads.takes in
+    let short : IsLastLine told f found.len found.whole → IfSome start (λ t. ¬ MeetsLimit first t) =
+    limit_not_last start told first f below all.slot all.reads.later all.reads.takes found.len
+    found.whole in
     let n = f.lines + 1 in
     let number : c.lines-number.result ≡ f.lines = c.lines-number.ensures.value in
-    let other : stream_line (seen (take found.len f.pending)) ≡ Commit → ⊥ = λ is. c.in_default-line.not-Commit (line_is ∙ is) in
-    let taken : c.take_line.new.self ≡ with_line c.lines.open n (stream_line (seen (take found.len f.pending))) =
-    c.in_ok-take_line.ensures.taken ∙ ap (λ (k : ℕ). with_line c.lines.open (k + 1) c.stream_line-line.result) number ∙ ap (with_line c.lines.open n) line_is in
+    let other : stream_line (seen (take found.len f.pending)) ≡ Commit → ⊥ =
+    λ is. c.in_default-line.not-Commit (line_is ∙ is) in
+    let taken : c.take_line.new.self
+    ≡ with_line c.lines.open n (stream_line (seen (take found.len f.pending))) =
+    c.in_ok-take_line.ensures.taken ∙ ap
+    (λ (k : ℕ). with_line c.lines.open (k + 1) c.stream_line-line.result) number
+    ∙ ap (with_line c.lines.open n) line_is in
     let skipped = c.skip-in-lines.ensures in
     let same_taken = ap (λ (x : Feed). x.taken) skipped in
     let counted = ap (λ (x : Feed). x.lines) skipped in
     let more = all.no_fewer_lines in
     record {
-      so_far = subst (λ (k : ℕ). SoFar g.S.Shelf.told g.S.Shelf.opened g.S.Shelf.faults c.args.shelf.now c.find.new.shelf first.slot first.taken k) (sym same_taken)
-          (so_far_on g.S.Shelf.told g.S.Shelf.opened g.S.Shelf.faults _ _ _ first.slot first.taken c.lines.feed.taken f.taken below c.lines.invariant.so_far _ c.lines.invariant.slot e.reads.reads);
-      read = ap (λ (x : Feed). open_on unfinished c.take_line.new.self (x.lines + 1) (ahead told x)) skipped
-          ∙ open_line unfinished c.lines.open n (seen (take found.len f.pending)) (ahead told f) (ahead told (answered found.whole f)) c.lines.invariant.paired (ahead_front told f found.len found.whole front) c.take_line.new.self other taken
+      so_far =
+          subst (λ (k : ℕ). SoFar g.S.Shelf.told g.S.Shelf.opened g.S.Shelf.faults c.args.shelf.now
+          c.find.new.shelf first.slot first.taken k) (sym same_taken)
+          (so_far_on g.S.Shelf.told g.S.Shelf.opened g.S.Shelf.faults _ _ _ first.slot first.taken
+          c.lines.feed.taken f.taken below c.lines.invariant.so_far _ c.lines.invariant.slot
+          e.reads.reads);
+      read =
+          ap (λ (x : Feed). open_on unfinished c.take_line.new.self (x.lines + 1) (ahead told x))
+          skipped
+          ∙ open_line unfinished c.lines.open n (seen (take found.len f.pending)) (ahead told f)
+          (ahead told (answered found.whole f)) c.lines.invariant.paired
+          (ahead_front told f found.len found.whole front) c.take_line.new.self other taken
           ∙ read;
-      ended = λ most few. subst (λ (x : Feed). EndsAhead start told first x c.take_line.new.self most) (sym skipped)
-          (ends_more start told first f c.lines.open most c.lines.invariant.paired alike found.len found.whole short front c.take_line.new.self other taken (ended most (omega arith)));
+      ended =
+          λ most few. subst (λ (x : Feed). EndsAhead start told first x c.take_line.new.self most)
+          (sym skipped)
+          (ends_more start told first f c.lines.open most c.lines.invariant.paired alike found.len
+          found.whole short front c.take_line.new.self other taken (ended most (omega arith)));
       paired = c.in_ok-take_line.ensures.paired;
       begun = λ h. absurd (omega arith);
       lines = omega arith;
       slot = ap (λ (x : Feed). x.slot) skipped ∙ all.slot;
-      due = λ h. let wrong = e.due (subst IsSpent (sym (c.lines.invariant.due h)) h) in absurd (cc wrong);
+      due =
+          λ h. let wrong = e.due (subst IsSpent (sym (c.lines.invariant.due h)) h) in absurd
+          (cc wrong);
     }

@@ -5,4 +5,5 @@ use Rattle.graph_text.specs.DraftCode.{attr_at}
 use Rattle.graph_text.proofs.graph_draft.attrs_of.Given as goal
 
 abbrev pub invariant-loop-v : goal.invariant-loop-v
-invariant-loop-v l = l.attrs ≡ map (λ v. unwrap_or (attr_at l.given v) (pos 0)) (range_with_len 0 l.v)
+invariant-loop-v l =
+    l.attrs ≡ map (λ v. unwrap_or (attr_at l.given v) (pos 0)) (range_with_len 0 l.v)

@@ -4,4 +4,5 @@ use Rattle.graph_text.specs.Printed.{attr_text}
 use Rattle.graph_text.proofs.printing.put_attrs.Given as goal
 
 abbrev pub invariant-loop-vertex : goal.invariant-loop-vertex
-invariant-loop-vertex l = l.out ≡ l.initial.out ++ flat_map (attr_text l.attrs) (range_with_len 0 l.vertex)
+invariant-loop-vertex l =
+    l.out ≡ l.initial.out ++ flat_map (attr_text l.attrs) (range_with_len 0 l.vertex)

@@ -3,13 +3,18 @@ use Rattle.std.specs.Prelude.{codes}
 use Rattle.output_text.specs.Lines.{labelled, cause_word}
 use Rattle.output_text.proofs.lines.push_refused_at.Goals as goal
 
-four_pieces : (s a b c d s1 s2 s3 s4 : List ℕ) → s1 ≡ s ++ a → s2 ≡ s1 ++ b → s3 ≡ s2 ++ c → s4 ≡ s3 ++ d → s4 ≡ s ++ (a ++ b ++ c ++ d)
+four_pieces : (s a b c d s1 s2 s3 s4 : List ℕ) → s1 ≡ s ++ a → s2 ≡ s1 ++ b → s3 ≡ s2 ++ c
+    → s4 ≡ s3 ++ d → s4 ≡ s ++ (a ++ b ++ c ++ d)
 four_pieces s a b c d s1 s2 s3 s4 e1 e2 e3 e4 =
-    e4 ∙ ap (λ (l : List ℕ). l ++ d) (e3 ∙ ap (λ (l : List ℕ). l ++ c) (e2 ∙ ap (λ (l : List ℕ). l ++ b) e1)) ∙ simp append_assoc
+    e4 ∙ ap (λ (l : List ℕ). l ++ d)
+    (e3 ∙ ap (λ (l : List ℕ). l ++ c) (e2 ∙ ap (λ (l : List ℕ). l ++ b) e1)) ∙ simp append_assoc
 
 pub returns : goal.returns
 returns c =
     let bad = c.args.bad.now in
-    four_pieces c.args.out.now.items (labelled (codes " refused line ") bad.line) (codes " ") (cause_word bad.cause) (codes "\n")
-    _ _ _ _ c.in_ok-push_labelled.ensures c.in_ok-extend_from_slice.ensures.items
-    (c.in_ok-extend_from_slice-2.ensures.items ∙ ap (λ (w : List ℕ). c.extend_from_slice.new.self.items ++ w) c.cause_word.ensures) c.in_ok-extend_from_slice-3.ensures.items
+    four_pieces c.args.out.now (labelled (codes " refused line ") bad.line) (codes " ")
+    (cause_word bad.cause) (codes "\n")
+    _ _ _ _ c.in_ok-push_labelled.ensures c.in_ok-extend_from_slice.ensures.ok
+    (c.in_ok-extend_from_slice-2.ensures.ok
+    ∙ ap (λ (w : List ℕ). c.extend_from_slice.new.self ++ w) c.cause_word.ensures)
+    c.in_ok-extend_from_slice-3.ensures.ok

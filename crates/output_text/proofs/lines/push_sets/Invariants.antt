@@ -4,4 +4,4 @@ use Rattle.output_text.specs.Lines.{set_line}
 use Rattle.output_text.proofs.lines.push_sets.Given as goal
 
 abbrev pub invariant-loop-v : goal.invariant-loop-v
-invariant-loop-v l = l.out.items ≡ l.initial.out.items ++ flat_map (set_line l.old l.new) (range_with_len 0 l.v)
+invariant-loop-v l = l.out ≡ l.initial.out ++ flat_map (set_line l.old l.new) (range_with_len 0 l.v)

@@ -7,5 +7,6 @@ abbrev pub invariant-loop-index : goal.invariant-loop-index
 invariant-loop-index l = record {
   apart : AreApart l.edges;
   made : after (graph_of l.attrs l.edges) (drop l.index l.edits) ≡ after l.graph l.edits;
-  judged : bad_from l.limits (graph_of l.attrs l.edges) l.index (drop l.index l.edits) ≡ bad l.limits l.graph l.edits;
+  judged : bad_from l.limits (graph_of l.attrs l.edges) l.index (drop l.index l.edits)
+      ≡ bad l.limits l.graph l.edits;
 }

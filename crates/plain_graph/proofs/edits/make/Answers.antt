@@ -13,10 +13,13 @@ returns-in_ok-push-in-Add-clause-made c =
     let attrs = c.args.attrs.now in
     let es = c.args.edges.now in
     let e = c.in-Add.edge in
-    let edit_good = good_here l attrs es c.as_slice.result.now c.args.edit.now None c.as_slice.ensures (c.in_default.ensures attrs (sym c.len.ensures)) refl in
-    let good : one l (graph_of attrs es) (Add e) ≡ None = ap (one l (graph_of attrs es)) (sym c.in-Add.is) ∙ edit_good in
+    let edit_good = good_here l attrs es c.as_slice.result.now c.args.edit.now None
+    c.as_slice.ensures (c.in_default.ensures attrs (sym c.len.ensures)) refl in
+    let good : one l (graph_of attrs es) (Add e)
+    ≡ None = ap (one l (graph_of attrs es)) (sym c.in-Add.is) ∙ edit_good in
     let pushed : c.push.new.self ≡ es ++ e ∷ [] = c.in_ok-push-in-Add.ensures.ok in
-    ap (graph_of attrs) pushed ∙ graph_of_push attrs es e (absent l attrs es e good) ∙ ap (edited (graph_of attrs es)) (sym c.in-Add.is)
+    ap (graph_of attrs) pushed ∙ graph_of_push attrs es e (absent l attrs es e good)
+    ∙ ap (edited (graph_of attrs es)) (sym c.in-Add.is)
 
 pub returns-in_ok-push-in-Add-clause-apart : goal.returns-in_ok-push-in-Add-clause-apart
 returns-in_ok-push-in-Add-clause-apart c =
@@ -24,8 +27,10 @@ returns-in_ok-push-in-Add-clause-apart c =
     let attrs = c.args.attrs.now in
     let es = c.args.edges.now in
     let e = c.in-Add.edge in
-    let edit_good = good_here l attrs es c.as_slice.result.now c.args.edit.now None c.as_slice.ensures (c.in_default.ensures attrs (sym c.len.ensures)) refl in
-    let good : one l (graph_of attrs es) (Add e) ≡ None = ap (one l (graph_of attrs es)) (sym c.in-Add.is) ∙ edit_good in
+    let edit_good = good_here l attrs es c.as_slice.result.now c.args.edit.now None
+    c.as_slice.ensures (c.in_default.ensures attrs (sym c.len.ensures)) refl in
+    let good : one l (graph_of attrs es) (Add e)
+    ≡ None = ap (one l (graph_of attrs es)) (sym c.in-Add.is) ∙ edit_good in
     let pushed : c.push.new.self ≡ es ++ e ∷ [] = c.in_ok-push-in-Add.ensures.ok in
     subst AreApart (sym pushed) (apart_push es e c.requires (absent l attrs es e good))
 
@@ -33,11 +38,16 @@ pub returns-in_ok-edges-in-Cut-clause-made : goal.returns-in_ok-edges-in-Cut-cla
 returns-in_ok-edges-in-Cut-clause-made c =
     let attrs = c.args.attrs.now in
     let es = c.args.edges.now in
-    let left : c.in_ok-edges-in-Cut.field-0 ≡ rest c.in-Cut.src c.in-Cut.dst es = c.in_ok-edges-in-Cut.ensures ∙ ap (rest c.in-Cut.src c.in-Cut.dst) c.as_slice-in-Cut.ensures in
-    ap (graph_of attrs) left ∙ graph_of_rest attrs es c.in-Cut.src c.in-Cut.dst ∙ ap (edited (graph_of attrs es)) (sym c.in-Cut.is)
+    let left : c.in_ok-edges-in-Cut.field-0
+    ≡ rest c.in-Cut.src c.in-Cut.dst es = c.in_ok-edges-in-Cut.ensures
+    ∙ ap (rest c.in-Cut.src c.in-Cut.dst) c.as_slice-in-Cut.ensures in
+    ap (graph_of attrs) left ∙ graph_of_rest attrs es c.in-Cut.src c.in-Cut.dst
+    ∙ ap (edited (graph_of attrs es)) (sym c.in-Cut.is)
 
 pub returns-in_ok-edges-in-Cut-clause-apart : goal.returns-in_ok-edges-in-Cut-clause-apart
 returns-in_ok-edges-in-Cut-clause-apart c =
     let es = c.args.edges.now in
-    let left : c.in_ok-edges-in-Cut.field-0 ≡ rest c.in-Cut.src c.in-Cut.dst es = c.in_ok-edges-in-Cut.ensures ∙ ap (rest c.in-Cut.src c.in-Cut.dst) c.as_slice-in-Cut.ensures in
+    let left : c.in_ok-edges-in-Cut.field-0
+    ≡ rest c.in-Cut.src c.in-Cut.dst es = c.in_ok-edges-in-Cut.ensures
+    ∙ ap (rest c.in-Cut.src c.in-Cut.dst) c.as_slice-in-Cut.ensures in
     subst AreApart (sym left) (apart_rest c.in-Cut.src c.in-Cut.dst es c.requires)

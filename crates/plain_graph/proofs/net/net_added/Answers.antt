@@ -8,4 +8,5 @@ returns c =
     let g = c.args.before.now in
     let new = c.edges-new.result.now in
     c.number_missing.ensures ∙ ap (λ h. count_by (is_missing h) new) c.edges-old.ensures.graph
-    ∙ number_added c.args.after.now.attrs new c.edges-new.ensures.apart g ∙ ap (λ h. length (added g h)) c.edges-new.ensures.graph
+    ∙ number_added c.args.after.now.attrs new c.edges-new.ensures.apart g
+    ∙ ap (λ h. length (added g h)) c.edges-new.ensures.graph

@@ -8,4 +8,5 @@ returns c =
     let h = c.args.after.now in
     let old = c.edges-old.result.now in
     c.number_missing.ensures ∙ ap (λ g. count_by (is_missing g) old) c.edges-new.ensures.graph
-    ∙ number_removed c.args.before.now.attrs old c.edges-old.ensures.apart h ∙ ap (λ g. length (removed g h)) c.edges-old.ensures.graph
+    ∙ number_removed c.args.before.now.attrs old c.edges-old.ensures.apart h
+    ∙ ap (λ g. length (removed g h)) c.edges-old.ensures.graph

@@ -5,4 +5,5 @@ use Rattle.plain_graph.proofs.scans.edge_count.Goals as goal
 
 pub returns : goal.returns
 returns c =
-    sym (length-graph_of c.args.graph.now.attrs c.edges-edges.result.now c.edges-edges.ensures.apart) ∙ ap (λ g. length (edges g)) c.edges-edges.ensures.graph
+    sym (length-graph_of c.args.graph.now.attrs c.edges-edges.result.now
+    c.edges-edges.ensures.apart) ∙ ap (λ g. length (edges g)) c.edges-edges.ensures.graph

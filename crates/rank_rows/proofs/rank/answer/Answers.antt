@@ -9,21 +9,33 @@ use Rattle.rank_rows.proofs.rank.answer.Goals as goal
 pub loop-round-init : goal.loop-round-init
 unfolding row
 loop-round-init c =
-    let ones : c.in_ok-row.row.items ≡ replicate (vertices c.args.graph.now) (pos 1000000) = search rules in
+    let ones : c.in_ok-row.row.items
+    ≡ replicate (vertices c.args.graph.now) (pos 1000000) = search rules in
     record {
       row = ones;
-      values = subst (λ xs. All IsValue xs) (sym ones) (All-replicate IsValue (vertices c.args.graph.now) (pos 1000000) (omega (arith, ints), omega (arith, ints)));
+      values = subst (λ xs. All IsValue xs) (sym ones)
+          (All-replicate IsValue (vertices c.args.graph.now) (pos 1000000)
+          (omega (arith, ints), omega (arith, ints)));
     }
 
 pub next-requires-clause-whole : goal.next-requires-clause-whole
 next-requires-clause-whole c =
-    ap length (c.deref-in-loop-round.ensures.value ∙ c.loop-round.invariant.row) ∙ length-row c.args.graph.now c.loop-round._round
+    ap length (c.deref-in-loop-round.ensures.value ∙ c.loop-round.invariant.row)
+    ∙ length-row c.args.graph.now c.loop-round._round
 
 pub loop-round-preserved : goal.loop-round-preserved
 loop-round-preserved c = record {
-  row = c.in_ok-row-2.ensures.row ∙ ap (next c.args.graph.now) (c.deref-in-loop-round.ensures.value ∙ c.loop-round.invariant.row) ∙ sym (row-more c.args.graph.now c.loop-round._round);
+  row = c.in_ok-row-2.ensures.row ∙ ap (next c.args.graph.now)
+      (c.deref-in-loop-round.ensures.value ∙ c.loop-round.invariant.row)
+      ∙ sym (row-more c.args.graph.now c.loop-round._round);
   values = c.in_ok-row-2.ensures.values;
 }
 
 pub returns-clause-few : goal.returns-clause-few
-returns-clause-few c = omega (arith, ap length c.loop-round.invariant.row, length-row c.args.graph.now c.loop-round._round, c.requires.good.few_vertices)
+returns-clause-few c = omega (
+  arith,
+  ap length c.loop-round.invariant.row,
+  length-row
+      c.args.graph.now c.loop-round._round,
+  c.requires.good.few_vertices,
+)

@@ -1,4 +1,5 @@
-use Rattle.std.proofs.Common.{rules, ◌≡◌, ◌++◌, [], ◌∷◌, ◌<◌, ◌+◌, pos, map, length, take, drop, get_or, set, All, FitsSigned, sym, ◌∙◌, ap, subst, arith, lit<}
+use Rattle.std.proofs.Common.{rules, ◌≡◌, ◌++◌, [], ◌∷◌, ◌<◌, ◌+◌, pos, map, length, take, drop}
+use Rattle.std.proofs.Common.{get_or, set, All, FitsSigned, sym, ◌∙◌, ap, subst, arith, lit<}
 use Rattle.std.specs.Int.{w64, cast_signed, cast_unsigned}
 use Rattle.std.proofs.lemmas.Int.{to_z-of_z}
 use Rattle.std.proofs.lemmas.Simd.{map-map}
@@ -19,15 +20,21 @@ loop-x-preserved c =
     let x = get_or ys i (pos 0) in
     let fits : FitsSigned w64 x = search rules in
     let new : cast_signed w64 (cast_unsigned w64 c.value.result) ≡ value x =
-    as_it_is 1000000000000 c.value.result (lit< tt) c.value.ensures.within ∙ c.value.ensures.value ∙ ap value (to_z-of_z w64 x fits) in
+    as_it_is 1000000000000 c.value.result (lit< tt) c.value.ensures.within ∙ c.value.ensures.value
+    ∙ ap value (to_z-of_z w64 x fits) in
     let below : i < length ys = omega arith in
     let set_new = ap (set ys i) new in
-    let taken : take (i + 1) (set ys i (cast_signed w64 (cast_unsigned w64 c.value.result))) ≡ take i ys ++ value x ∷ [] =
+    let taken : take (i + 1) (set ys i (cast_signed w64 (cast_unsigned w64 c.value.result)))
+    ≡ take i ys ++ value x ∷ [] =
     ap (take (i + 1)) set_new ∙ take_more_set ys i (value x) below in
-    let fresh : IsValue (value x) = subst IsValue (sym (as_it_is 1000000000000 c.value.result (lit< tt) c.value.ensures.within) ∙ new) c.value.ensures.within in
+    let fresh : IsValue (value x) = subst IsValue
+    (sym (as_it_is 1000000000000 c.value.result (lit< tt) c.value.ensures.within) ∙ new)
+    c.value.ensures.within in
     record {
-      made = set_new ∙ map_over_more value xs ys i x c.loop-x-test.true c.loop-x.invariant.made (get_or_default ys i (pos 0) x below);
-      values = subst (λ zs. All IsValue zs) (sym taken) (All-push IsValue (take i ys) (value x) c.loop-x.invariant.values fresh);
+      made = set_new ∙ map_over_more value xs ys i x c.loop-x-test.true c.loop-x.invariant.made
+          (get_or_default ys i (pos 0) x below);
+      values = subst (λ zs. All IsValue zs) (sym taken)
+          (All-push IsValue (take i ys) (value x) c.loop-x.invariant.values fresh);
     }
 
 pub returns-clause-row : goal.returns-clause-row
@@ -39,8 +46,15 @@ returns-clause-row c =
     let vs = c.in_ok-values.values.items in
     let size = ap length c.deref_mut-x-items.ensures.value in
     let all : ys ≡ map value vs =
-    c.loop-x.invariant.made ∙ ap (λ zs. zs ++ drop i xs) (ap (map value) (take_all i xs c.loop-x-test.false)) ∙ ap (λ zs. map value xs ++ zs) (drop_all i xs c.loop-x-test.false)
+    c.loop-x.invariant.made ∙ ap (λ zs. zs ++ drop i xs)
+    (ap (map value) (take_all i xs c.loop-x-test.false))
+    ∙ ap (λ zs. map value xs ++ zs) (drop_all i xs c.loop-x-test.false)
     ∙ append-nil (map value xs) ∙ ap (map value) c.deref_mut-x-items.ensures.value in
-    let rest : ys ++ drop (length ys) vs ≡ ys = ap (λ zs. ys ++ zs) (drop_all (length ys) vs (omega (arith, size))) ∙ append-nil ys in
-    ap (take c.in_ok-values.values.len) rest ∙ take_all c.in_ok-values.values.len ys (omega (arith, size, c.in_ok-values.values.ok.0)) ∙ all
-    ∙ ap (map value) c.in_ok-values.ensures ∙ map-map value (aggregate g c.args.row.now) (range_with_len 0 (vertices g))
+    let rest : ys ++ drop (length ys) vs
+    ≡ ys = ap (λ zs. ys ++ zs) (drop_all (length ys) vs (omega (arith, size)))
+    ∙ append-nil ys in
+    ap (take c.in_ok-values.values.len) rest
+    ∙ take_all c.in_ok-values.values.len ys (omega (arith, size, c.in_ok-values.values.ok.0))
+    ∙ all
+    ∙ ap (map value) c.in_ok-values.ensures
+    ∙ map-map value (aggregate g c.args.row.now) (range_with_len 0 (vertices g))

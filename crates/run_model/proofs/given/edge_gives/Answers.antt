@@ -1,18 +1,19 @@
 use Rattle.std.specs.List.{range_with_len}
-use Rattle.std.proofs.Common.{rules, ◌≡◌, ℤ, [], map, ap, ◌∙◌, sym, subst, arith, length, FitsSigned, w64}
-use Rattle.std.proofs.lemmas.Int.{to_z-of_z}
+use Rattle.std.proofs.Common.{◌≡◌, [], map, ap, ◌∙◌, subst, arith, length}
 use Rattle.std.proofs.lemmas.List.{get_or_read}
 use Rattle.std.proofs.lemmas.List.FromFn.{length-map-range_with_len}
 use Rattle.bolt_base.specs.Graph.{Graph, vertices}
 use Rattle.vertex_expr.specs.declared.program.ProgramEntries.{ProgramEntries}
-use Rattle.run_model.specs.Evaluable.{AreEvaluable}
-use Rattle.run_model.specs.Rows.{Lists, contribute_env}
+use Rattle.run_model.specs.Rows.{Lists}
 use Rattle.run_model.specs.Given.{AreGiven, source_gives}
-use Rattle.run_model.proofs.GivenLemmas.{evaluable, given_at}
+use Rattle.run_model.proofs.GivenLemmas.{edge_evaluable, given_at}
 use Rattle.run_model.proofs.given.edge_gives.Goals as goal
 
-given_long : (p : ProgramEntries) (h : Graph) (vals given : Lists) → given ≡ map (source_gives p h vals) (range_with_len 0 (vertices h)) → length given ≡ vertices h
-given_long p h vals given e = ap length e ∙ length-map-range_with_len (source_gives p h vals) 0 (vertices h)
+given_long : (p : ProgramEntries) (h : Graph) (vals given : Lists)
+    → given ≡ map (source_gives p h vals) (range_with_len 0 (vertices h))
+    → length given ≡ vertices h
+given_long p h vals given e = ap length e
+    ∙ length-map-range_with_len (source_gives p h vals) 0 (vertices h)
 
 pub index-requires : goal.index-requires
 index-requires c =
@@ -24,7 +25,9 @@ index-requires c =
     omega arith
 
 pub contributed-requires-clause-lanes : goal.contributed-requires-clause-lanes
-contributed-requires-clause-lanes c = evaluable c.args.program.now c.args.graph.now c.args.vals.now c.requires.before c.args.e c.requires.edge
+contributed-requires-clause-lanes c = edge_evaluable c.args.program.now c.args.graph.now
+    c.args.vals.now
+    c.requires.before c.args.e c.requires.edge
 
 pub returns-in-BySource : goal.returns-in-BySource
 returns-in-BySource c =
@@ -34,6 +37,8 @@ returns-in-BySource c =
     let long = given_long p h c.args.vals.now c.in-BySource.given.items are.1 in
     let there = c.requires.edge.source in
     record {
-      numbers = get_or_read c.in-BySource.given.items c.args.e.src c.index.result.now (omega arith) c.index.ensures []
-          ∙ given_at p h c.args.vals.now c.requires.before are.0 c.in-BySource.given.items are.1 c.args.e c.requires.edge;
+      numbers = get_or_read c.in-BySource.given.items c.args.e.src c.index.result.now (omega arith)
+          c.index.ensures []
+          ∙ given_at p h c.args.vals.now c.requires.before are.0 c.in-BySource.given.items are.1
+          c.args.e c.requires.edge;
     }

@@ -5,7 +5,7 @@ use Rattle.vertex_expr.specs.declared.program.ProgramEntries.{ProgramEntries}
 use Rattle.run_model.specs.Evaluable.{AreEvaluable}
 use Rattle.run_model.specs.Rows.{contribute_env}
 use Rattle.run_model.specs.Given.{edge_of}
-use Rattle.run_model.proofs.GivenLemmas.{evaluable, least_edge}
+use Rattle.run_model.proofs.GivenLemmas.{edge_evaluable, least_edge}
 use Rattle.sync_engine.proofs.contributions.source_gives.Goals as goal
 
 pub evaluated_at-requires-clause-evaluable : goal.evaluated_at-requires-clause-evaluable
@@ -22,5 +22,5 @@ evaluated_at-requires-clause-evaluable g c =
     subst (λ (w : ℤ). AreEvaluable p
     (contribute_env p h c.args.vals.now (record { src = u; dst = 0; weight = w })) p.contribute)
     (sym is)
-    (evaluable p h c.args.vals.now c.requires.before (edge_of p u)
+    (edge_evaluable p h c.args.vals.now c.requires.before (edge_of p u)
     (least_edge p h c.args.vals.now c.requires.before u c.requires.source some))

@@ -10,4 +10,6 @@ returns-clause-front c =
     let old = c.args.block.now.items in
     let size : vec_len c.args.block.now ≡ length old = c.args.block.now.ok.0 in
     let all : take 65536 old ≡ old = take_all 65536 old (omega arith) in
-    ap (take k) c.in_ok-resize.ensures.items ∙ ap (λ (l : List ℕ). take k (l ++ replicate (65536 - vec_len c.args.block.now) 0)) all ∙ take-append-le k old _ (omega arith)
+    ap (take k) c.in_ok-resize.ensures.items
+    ∙ ap (λ (l : List ℕ). take k (l ++ replicate (65536 - vec_len c.args.block.now) 0)) all
+    ∙ take-append-le k old _ (omega arith)

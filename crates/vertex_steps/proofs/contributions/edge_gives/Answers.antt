@@ -10,7 +10,7 @@ use Rattle.run_model.specs.Evaluable.{AreEvaluable}
 use Rattle.run_model.specs.Rows.{Lists, contribute_env}
 use Rattle.run_model.specs.Given.{source_gives}
 use Rattle.run_model.specs.Given.{AreGiven}
-use Rattle.run_model.proofs.GivenLemmas.{evaluable, given_at}
+use Rattle.run_model.proofs.GivenLemmas.{edge_evaluable, given_at}
 use Rattle.vertex_steps.proofs.contributions.edge_gives.Goals as goal
 
 given_long : (p : ProgramEntries) (h : Graph) (vals given : Lists)
@@ -38,7 +38,7 @@ evaluated_at-requires-clause-evaluable g c =
     subst (λ (w : ℤ). AreEvaluable p
     (contribute_env p h vals (record { src = c.args.e.src; dst = 0; weight = w }))
     p.contribute) (sym (to_z-of_z w64 c.args.e.weight fits))
-    (evaluable p h vals c.requires.before c.args.e c.requires.edge)
+    (edge_evaluable p h vals c.requires.before c.args.e c.requires.edge)
 
 pub returns-in-BySource : goal.returns-in-BySource
 returns-in-BySource g c =

@@ -6,7 +6,7 @@ use Rattle.vertex_expr.specs.declared.program.ProgramEntries.{ProgramEntries}
 use Rattle.run_model.specs.Evaluable.{AreEvaluable}
 use Rattle.run_model.specs.Rows.{Lists, contribute_env}
 use Rattle.run_model.specs.Given.{edge_of}
-use Rattle.run_model.proofs.GivenLemmas.{evaluable, least_edge}
+use Rattle.run_model.proofs.GivenLemmas.{edge_evaluable, least_edge}
 use Rattle.vertex_steps.proofs.contributions.source_gives.Goals as goal
 
 pub evaluated_at-requires-clause-evaluable : goal.evaluated_at-requires-clause-evaluable
@@ -24,5 +24,5 @@ evaluated_at-requires-clause-evaluable g c =
     subst (λ (w : ℤ). AreEvaluable p
     (contribute_env p h vals (record { src = u; dst = 0; weight = w })) p.contribute)
     (sym is)
-    (evaluable p h vals c.requires.before (edge_of p u)
+    (edge_evaluable p h vals c.requires.before (edge_of p u)
     (least_edge p h vals c.requires.before u c.requires.source some))

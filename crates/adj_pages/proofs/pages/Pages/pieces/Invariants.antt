@@ -7,6 +7,7 @@ use Rattle.adj_pages.proofs.pages.Pages.pieces.Given as goal
 
 abbrev pub invariant-loop-i : goal.invariant-loop-i
 invariant-loop-i g l = record {
-  whole : joined l.done.items ++ finite.entries l.last ≡ marked (take l.i (marks g.P.Page.arcs l.self-inside.index.items));
+  whole : joined l.done.items ++ finite.entries l.last
+      ≡ marked (take l.i (marks g.P.Page.arcs l.self-inside.index.items));
   some : All (λ p. 0 < finite.len p) l.done.items;
 }

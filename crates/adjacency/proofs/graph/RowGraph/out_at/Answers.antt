@@ -1,4 +1,5 @@
-use Rattle.std.proofs.Common.{ℤ, ap, sym, ◌∙◌, ◌≡◌, arith, length, slice_get, Some, rules, FitsSigned, w64, to_z, of_z}
+use Rattle.std.proofs.Common.{ℤ, ap, sym, ◌∙◌, ◌≡◌, arith, slice_get, Some, rules, FitsSigned, w64}
+use Rattle.std.proofs.Common.{to_z, of_z}
 use Rattle.std.proofs.lemmas.Int.{to_z-of_z}
 use Rattle.bolt_base.specs.Graph.{outdeg, out_edges}
 use Rattle.bolt_base.specs.declared.edge.Edge.{Edge}
@@ -17,7 +18,9 @@ arc-dst-requires g c =
 pub returns : goal.returns
 returns g c =
     let fields = c.self.inside in
-    let same : to_z w64 (of_z w64 c.arc-dst.result.1) ≡ c.arc-dst.result.1 = (let f : FitsSigned w64 c.arc-dst.result.1 = search rules in to_z-of_z w64 c.arc-dst.result.1 f) in
+    let same : to_z w64 (of_z w64 c.arc-dst.result.1)
+    ≡ c.arc-dst.result.1 = (let f : FitsSigned w64 c.arc-dst.result.1 = search rules in
+    to_z-of_z w64 c.arc-dst.result.1 f) in
     let edge_of : ℤ → Edge = λ w. record { src = c.args.u; dst = c.arc-dst.result.0; weight = w } in
     ap (λ (s : State). slice_get (out_edges s.now c.args.u) c.args.k) (sym c.self.view_is)
     ∙ out_edge_at fields.attrs.items fields.out c.args.u c.args.k c.arc-dst.result c.arc-dst.ensures

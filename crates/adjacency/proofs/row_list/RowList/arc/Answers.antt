@@ -13,7 +13,11 @@ index-row-requires g c =
     omega (arith, there, long, ap length c.self.view_is, c.self.inside.rows.ok.0)
 
 pub arc-requires : goal.arc-requires
-arc-requires g c = subst (λ (r : RowMap). c.args.k < finite.len r) (row_mapped_at g.R.Arcs.arcs c.self.inside.rows.items c.args.self.now c.self.view_is c.args.at c.args.k c.requires c.index-row.result.now c.index-row.ensures) c.requires
+arc-requires g c = subst (λ (r : RowMap). c.args.k < finite.len r)
+    (row_mapped_at g.R.Arcs.arcs c.self.inside.rows.items c.args.self.now c.self.view_is c.args.at
+    c.args.k c.requires c.index-row.result.now c.index-row.ensures) c.requires
 
 pub returns : goal.returns
-returns g c = ap (λ (r : RowMap). slice_get (finite.entries r) c.args.k) (row_mapped_at g.R.Arcs.arcs c.self.inside.rows.items c.args.self.now c.self.view_is c.args.at c.args.k c.requires c.index-row.result.now c.index-row.ensures) ∙ c.arc.ensures
+returns g c = ap (λ (r : RowMap). slice_get (finite.entries r) c.args.k)
+    (row_mapped_at g.R.Arcs.arcs c.self.inside.rows.items c.args.self.now c.self.view_is c.args.at
+    c.args.k c.requires c.index-row.result.now c.index-row.ensures) ∙ c.arc.ensures

@@ -1,4 +1,5 @@
-use Rattle.std.proofs.Common.{ap, ◌∙◌, ◌≡◌, ◌<◌, ◌+◌, ◌*◌, length, arith, take, drop, length-take, length-drop}
+use Rattle.std.proofs.Common.{ap, ◌∙◌, ◌≡◌, ◌<◌, ◌+◌, ◌*◌, length, arith, take, drop, length-take}
+use Rattle.std.proofs.Common.{length-drop}
 use Rattle.agg_history.specs.Entries.{chunks}
 use Rattle.agg_history.proofs.Chunks.{after_first, after_first_end}
 use Rattle.agg_history.proofs.CellLemmas.{lanes_is, count_is, all_is}

@@ -1,4 +1,5 @@
-use Rattle.std.proofs.Common.{ap, ◌∙◌, ◌≡◌, ◌+◌, ◌*◌, ◌++◌, length, take, drop, arith, length-append, length-take, length-drop}
+use Rattle.std.proofs.Common.{ap, ◌∙◌, ◌≡◌, ◌+◌, ◌*◌, ◌++◌, length, take, drop, arith}
+use Rattle.std.proofs.Common.{length-append, length-take, length-drop}
 use Rattle.std.proofs.lemmas.List.{with_items_is}
 use Rattle.bolt_base.specs.Keep.{Entry}
 use Rattle.agg_history.specs.Entries.{entry_in, words_of, chunks}

@@ -1,4 +1,5 @@
-use Rattle.std.proofs.Common.{◌≡◌, sym, ap, ◌∙◌, suc, ◌-◌, pos, length, min, get_or, arith, rules, FitsSigned, w64}
+use Rattle.std.proofs.Common.{◌≡◌, sym, ap, ◌∙◌, suc, ◌-◌, pos, length, min, get_or, arith, rules}
+use Rattle.std.proofs.Common.{FitsSigned, w64}
 use Rattle.std.proofs.lemmas.Int.{to_z-of_z}
 use Rattle.bolt_base.specs.Keep.{Entry}
 use Rattle.agg_history.specs.Entries.{Entries, entry_in}

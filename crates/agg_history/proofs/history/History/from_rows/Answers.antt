@@ -1,4 +1,5 @@
-use Rattle.std.proofs.Common.{◌≡◌, ◌<◌, ◌≤◌, ◌+◌, ◌++◌, ◌∷◌, [], ℕ, List, length, map, refl, sym, ap, ◌∙◌, None, arith}
+use Rattle.std.proofs.Common.{◌≡◌, ◌<◌, ◌≤◌, ◌+◌, ◌++◌, ◌∷◌, [], ℕ, List, length, map, refl, sym}
+use Rattle.std.proofs.Common.{ap, ◌∙◌, None, arith}
 use Rattle.std.specs.List.{sum_by, range_with_len}
 use Rattle.std.proofs.lemmas.List.FromFn.{length-map-range_with_len, map-range_with_len_more}
 use Rattle.std.proofs.lemmas.List.Elements.{All-same, All-map, All-from_get_or}
@@ -9,7 +10,8 @@ use Rattle.bolt_base.proofs.RowColumns.{column_at}
 use Rattle.agg_history.specs.Entries.{Entries, entry_in}
 use Rattle.agg_history.specs.Pruned.{Pruned, pruned, rows_from}
 use Rattle.agg_history.proofs.PrunedLemmas.{stands_for_rows}
-use Rattle.agg_history.proofs.MakeLemmas.{track_in, track_cells, track_short, first_wide, table_made}
+use Rattle.agg_history.proofs.MakeLemmas.{track_in, track_cells, track_short, first_wide}
+use Rattle.agg_history.proofs.MakeLemmas.{table_made}
 use Rattle.agg_history.proofs.history.History.from_rows.Goals as goal
 
 pub push_vertex-requires-clause-room : goal.push_vertex-requires-clause-room

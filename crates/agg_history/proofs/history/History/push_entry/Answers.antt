@@ -1,4 +1,5 @@
-use Rattle.std.proofs.Common.{◌≡◌, ◌++◌, ◌∷◌, [], sym, ap, ◌∙◌, suc, ◌-◌, length, min, subst, arith, OnOk}
+use Rattle.std.proofs.Common.{◌≡◌, ◌++◌, ◌∷◌, [], sym, ap, ◌∙◌, suc, ◌-◌, length, min, subst, arith}
+use Rattle.std.proofs.Common.{OnOk}
 use Rattle.bolt_base.specs.Keep.{Entry}
 use Rattle.agg_history.specs.Entries.{Entries, entry_in}
 use Rattle.agg_history.specs.Pruned.{track_of}

@@ -1,4 +1,4 @@
-use Rattle.std.proofs.Common.{◌≡◌, map, take, length}
+use Rattle.std.proofs.Common.{◌≡◌, take, length}
 use Rattle.std.specs.List.{zip}
 use Rattle.swaps.specs.Swaps.{put_all, places}
 use Rattle.agg_history.proofs.history.commit.put_heads.Given as goal

@@ -1,4 +1,5 @@
-use Rattle.std.proofs.Common.{ℕ, ℤ, pos, length, get_or, set, sym, ap, ◌∙◌, arith, rules, FitsSigned, w64}
+use Rattle.std.proofs.Common.{ℕ, ℤ, pos, length, get_or, set, sym, ap, ◌∙◌, arith, rules}
+use Rattle.std.proofs.Common.{FitsSigned, w64}
 use Rattle.std.proofs.lemmas.Int.{to_z-of_z}
 use Rattle.std.proofs.lemmas.List.{ext_get_or, length-set, length-replicate}
 use Rattle.std.proofs.lemmas.List.Edits.{fill_by_more}

@@ -1,9 +1,7 @@
-use Rattle.std.proofs.Common.{◌≡◌, ◌<◌, ◌≤◌, ◌++◌, ◌∷◌, [], length, take, sym, ap, ◌∙◌, arith}
-use Rattle.std.proofs.lemmas.List.{take_all}
+use Rattle.std.proofs.Common.{◌<◌, ◌++◌, ◌∷◌, [], length, take, sym, ap, ◌∙◌, arith}
 use Rattle.bolt_base.specs.Keep.{column}
 use Rattle.bolt_base.specs.RowTable.{RowTable}
 use Rattle.bolt_base.proofs.RowShapes.{entry_wide}
-use Rattle.bolt_base.proofs.RowColumns.{length-column}
 use Rattle.agg_history.specs.Entries.{Entries}
 use Rattle.agg_history.proofs.MakeLemmas.{column_more}
 use Rattle.agg_history.proofs.history.make.fill_column.Goals as goal

@@ -1,4 +1,5 @@
-use Rattle.std.proofs.Common.{◌<◌, ◌≡◌, [], ℕ, List, suc, refl, sym, ap, ◌∙◌, subst, length, get_or, set, arith}
+use Rattle.std.proofs.Common.{◌<◌, ◌≡◌, [], ℕ, List, suc, refl, sym, ap, ◌∙◌, subst, length, get_or}
+use Rattle.std.proofs.Common.{set, arith}
 use Rattle.std.proofs.lemmas.List.{length-set, length-map, length_push}
 use Rattle.std.proofs.lemmas.List.Elements.{All-set, All-get_or}
 use Rattle.bolt_base.specs.Keep.{Entry}
@@ -9,7 +10,8 @@ use Rattle.agg_history.specs.Places.{PlaceTable, place_at}
 use Rattle.agg_history.specs.OverlayOf.{vertices_in}
 use Rattle.agg_history.proofs.PutLemmas.{put_found}
 use Rattle.agg_history.proofs.OverlayLemmas.{puts_in, put_back, put_more, put_numbered}
-use Rattle.agg_history.proofs.OverlayIs.{cut_is, lanes_is, vertices_is, puts_is, round_below, vertex_below, listed_is, new_place, put_room}
+use Rattle.agg_history.proofs.OverlayIs.{cut_is, lanes_is, vertices_is, puts_is, round_below}
+use Rattle.agg_history.proofs.OverlayIs.{vertex_below, listed_is, new_place, put_room}
 use Rattle.agg_history.proofs.overlay.Overlay.put.Goals as goal
 
 -- the places' table and the puts are as they were

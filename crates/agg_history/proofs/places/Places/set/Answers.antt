@@ -1,7 +1,9 @@
-use Rattle.std.proofs.Common.{◌≡◌, ◌<◌, ◌+◌, ◌-◌, ◌*◌, ap, ◌∙◌, suc, length, get_or, set, map, [], arith}
+use Rattle.std.proofs.Common.{◌≡◌, ◌<◌, ◌+◌, ◌-◌, ◌*◌, ap, ◌∙◌, suc, length, get_or, set, map, []}
+use Rattle.std.proofs.Common.{arith}
 use Rattle.agg_history.specs.Places.{line_of, place_at}
 use Rattle.std.proofs.lemmas.List.{get_or_default, get_or-set_same}
-use Rattle.agg_history.proofs.PlacesAre.{count_is, width_is, touched_is, slot_of, place_inside, place_put, line_width}
+use Rattle.agg_history.proofs.PlacesAre.{count_is, width_is, touched_is, slot_of, place_inside}
+use Rattle.agg_history.proofs.PlacesAre.{place_put, line_width}
 use Rattle.agg_history.proofs.places.Places.set.Goals as goal
 
 pub overflow_sub-slot : goal.overflow_sub-slot

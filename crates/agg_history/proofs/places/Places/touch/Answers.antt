@@ -1,4 +1,5 @@
-use Rattle.std.proofs.Common.{◌≡◌, ◌<◌, ◌+◌, ◌-◌, ◌*◌, ◌++◌, ◌∷◌, [], ℕ, List, sym, ap, ◌∙◌, suc, length, get_or, set, map, take, replicate, subst, arith}
+use Rattle.std.proofs.Common.{◌≡◌, ◌<◌, ◌+◌, ◌-◌, ◌*◌, ◌++◌, ◌∷◌, [], ℕ, List, sym, ap, ◌∙◌, suc}
+use Rattle.std.proofs.Common.{length, get_or, set, map, take, replicate, subst, arith}
 use Rattle.std.proofs.lemmas.List.{get_or_default, length_push, length-set, take_all, take_at}
 use Rattle.agg_history.specs.Numbered.{AreNumbered}
 use Rattle.agg_history.specs.Places.{line_of}

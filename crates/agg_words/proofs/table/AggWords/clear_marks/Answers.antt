@@ -15,7 +15,12 @@ loop-mark_word-preserved c =
     let inv = c.loop-mark_word.invariant in
     let m = c.loop-mark_word.mark_word in
     let n = c.args.self.now.layout.bits in
-    rw c.wipe.ensures.seat (ap (λ (s : SeatFacts). record s { view = without_word s.view m }) inv.0, from_next m n _ inv.1, from_next m n _ inv.2)
+    rw c.wipe.ensures.seat (
+      ap (λ (s : SeatFacts). record s { view = without_word s.view m })
+          inv.0,
+      from_next m n _ inv.1,
+      from_next m n _ inv.2,
+    )
 
 pub returns : goal.returns
 returns c =
@@ -28,4 +33,7 @@ returns c =
     let marks : c.loop-mark_word.seat.view.marks ≡ [] = none_past m n _ (omega arith) inv.1 in
     let met : c.loop-mark_word.seat.view.met ≡ [] = none_past m n _ (omega arith) inv.2 in
     let same = c.know.ensures.same in
-    record { seat = inv.0 ∙ (λ i. record (same i) { view = record (same i).view { marks = marks i; met = met i } }) }
+    record {
+      seat = inv.0 ∙ (λ i. record (same i)
+          { view = record (same i).view { marks = marks i; met = met i } });
+    }

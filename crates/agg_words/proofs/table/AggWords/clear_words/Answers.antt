@@ -13,6 +13,9 @@ loop-word-preserved c =
     let first : SeatFacts = c.args.seat.now in (
       c.take.ensures.seat
           ∙ ap (λ (s : SeatFacts). record s { view = with_taken s.view w }) inv.0
-          ∙ ap (λ (l : List Amount). let s : SeatFacts = record first { view = record first.view { amounts = l } } in s) (takes_back_next w old (old ++ taken_back w old) refl),
-      λ u below. ap (λ (s : SeatFacts). sum_at u s.view.amounts) c.take.ensures.seat ∙ takes_next w u c.loop-word.seat.view.amounts (inv.1 u) below,
+          ∙ ap (λ (l : List Amount). let s : SeatFacts = record first
+          { view = record first.view { amounts = l } } in s)
+          (takes_back_next w old (old ++ taken_back w old) refl),
+      λ u below. ap (λ (s : SeatFacts). sum_at u s.view.amounts) c.take.ensures.seat
+          ∙ takes_next w u c.loop-word.seat.view.amounts (inv.1 u) below,
     )

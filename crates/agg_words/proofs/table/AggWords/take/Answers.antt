@@ -1,6 +1,6 @@
 use Rattle.std.proofs.Common.{rules, arith, ap}
 use Rattle.agg_words.specs.declared.layout.Layout.{Layout}
-use Rattle.agg_words.proofs.Adding.{takes}
+use Rattle.agg_words.proofs.Adding.{take_allowed}
 use Rattle.agg_words.proofs.table.AggWords.take.Goals as goal
 
 pub swap-sum-requires : goal.swap-sum-requires
@@ -11,5 +11,9 @@ swap-sum-requires c =
     let layout_units = ap (λ t. t.layout.units) c.self.view_is in
     let some_unit = c.self.invariant.some_unit in
     let room = c.self.invariant.size in
-    let units = ap (λ s. s.view.units) c.seat.view_is in
-    (search rules, omega arith, takes _ _ _ c.seat.inside.seat.me _ (omega arith) (omega arith) (omega arith))
+    let units = ap (λ s. s.view.units) c.seat.view_is in (
+      search rules,
+      omega arith,
+      take_allowed _ _ _ c.seat.inside.seat.me _ (omega arith) (omega arith)
+          (omega arith),
+    )

@@ -4,4 +4,5 @@ use Rattle.bolt_base.proofs.RowShapes.{flat_rectangular}
 use Rattle.bolt_base.proofs.rows.Rows.vertices.Goals as goal
 
 pub returns-clause-shape : goal.returns-clause-shape
-returns-clause-shape c = subst AreRectangular c.self.view_is (flat_rectangular c.self.inside c.self.invariant)
+returns-clause-shape c = subst AreRectangular c.self.view_is
+    (flat_rectangular c.self.inside c.self.invariant)

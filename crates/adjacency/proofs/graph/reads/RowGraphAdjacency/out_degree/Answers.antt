@@ -1,7 +1,5 @@
 use Rattle.std.proofs.Common.{ap, sym, ◌∙◌, arith, rules, Fits, w32}
-use Rattle.std.specs.FinMap as finite
 use Rattle.bolt_base.specs.Graph.{outdeg}
-use Rattle.adjacency.specs.Rows.{row_at}
 use Rattle.adjacency.specs.State.{State}
 use Rattle.adjacency.proofs.PlainLemmas.{outdeg_row}
 use Rattle.adjacency.proofs.graph.reads.RowGraphAdjacency.out_degree.Goals as goal
@@ -17,4 +15,5 @@ overflow_cast-result g c =
 pub returns : goal.returns
 returns g c =
     c.degree.ensures
-    ∙ sym (outdeg_row c.self.inside.attrs.items c.self.inside.out c.args.u) ∙ ap (λ (s : State). outdeg s.now c.args.u) c.self.view_is
+    ∙ sym (outdeg_row c.self.inside.attrs.items c.self.inside.out c.args.u)
+    ∙ ap (λ (s : State). outdeg s.now c.args.u) c.self.view_is

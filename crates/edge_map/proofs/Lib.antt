@@ -1,0 +1,14 @@
+pub mod Residues
+pub mod Growing
+pub mod Sources
+pub mod Prepared
+pub mod Gifts
+pub mod Places
+pub mod Unadded
+pub mod RisingTasks
+pub mod Walking
+pub mod Parts
+pub mod TargetLemmas
+pub mod TasksAgree
+pub mod SameTasks
+pub mod Rising

@@ -1,0 +1,2 @@
+pub mod TakenWords
+pub mod Spreading
