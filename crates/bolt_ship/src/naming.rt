@@ -7,7 +7,8 @@ use crate::texts::{DIST, LABELS2, LABELS4, RANK, WIDE};
 /// The text of the program of this name. None for every name but `rank`, `labels2`, `labels4`,
 /// `dist` and `wide`.
 pub fn shipped(name: &str) -> Option<&'static [u8]>
-    ensures text { MatchOption result (text_of name.now ≡ None) (λ text. text_of name.now ≡ Some text.now) }
+    ensures text { MatchOption result (text_of name.now ≡ None)
+        (λ text. text_of name.now ≡ Some text.now) }
 {
     match name {
         "rank" => Some(RANK),
