@@ -4,3 +4,4 @@ pub mod MarkLemmas
 pub mod SplitLemmas
 pub mod EditedLemmas
 pub mod PageLemmas
+pub mod FormLemmas

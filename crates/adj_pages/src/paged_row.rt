@@ -10,11 +10,16 @@ use adjacency::{Arcs, Near, Row};
 use std::alloc::{AllocError, Global};
 use std::marker::Model;
 
-// A row that fits a page is that page. Another one has an index of lists of pages, each with an
-// index of its own.
+// What stands where no arc can be read.
+const NO_ARC: (u32, i64) = (0, 0);
+
+// A row without arcs takes no memory. One that fits a page is that page. Another one has an index
+// of
+// lists of pages, each with an index of its own.
 #[derive(Drop)]
 enum Form {
-    One(Row),
+    Empty,
+    One(Box<Row>),
     Many(Box<Pages<Pages<Row>>>),
 }
 
@@ -49,9 +54,7 @@ impl PagedRow {
                 form: Form::Many(Box::new(alloc, lists)?),
             })
         } else {
-            Ok(PagedRow {
-                form: Form::One(Row::new(alloc)),
-            })
+            Ok(PagedRow { form: Form::Empty })
         }
     }
 
@@ -59,9 +62,11 @@ impl PagedRow {
     fn of_arcs(alloc: Global, row: Row) -> Result<PagedRow, AllocError>
         ensures { IfOk result (λ r. r ≡ row) }
     {
-        if row.len() <= PAGE_ARCS {
+        if row.len() == 0 {
+            Ok(PagedRow { form: Form::Empty })
+        } else if row.len() <= PAGE_ARCS {
             Ok(PagedRow {
-                form: Form::One(row),
+                form: Form::One(Box::new(alloc, row)?),
             })
         } else {
             PagedRow::of_lists(alloc, lists_of(alloc, row)?)
@@ -83,10 +88,8 @@ fn lists_of(alloc: Global, row: Row) -> Result<Pages<Pages<Row>>, AllocError>
 impl Arcs for PagedRow {
     ghost arcs = { λ row. row };
 
-    fn none(alloc: Global) -> Self {
-        PagedRow {
-            form: Form::One(Row::new(alloc)),
-        }
+    fn none(_alloc: Global) -> Self {
+        PagedRow { form: Form::Empty }
     }
 
     fn of_row(alloc: Global, row: Row) -> Result<Self, AllocError> {
@@ -95,6 +98,7 @@ impl Arcs for PagedRow {
 
     fn degree(&self) -> usize {
         match &self.form {
+            Form::Empty => 0,
             Form::One(row) => row.len(),
             Form::Many(lists) => lists.len(),
         }
@@ -102,6 +106,7 @@ impl Arcs for PagedRow {
 
     fn weight(&self, end: u32) -> Option<i64> {
         match &self.form {
+            Form::Empty => None,
             Form::One(row) => row.get(end),
             Form::Many(lists) => lists.get(end),
         }
@@ -110,6 +115,7 @@ impl Arcs for PagedRow {
     #[inline]
     fn arc(&self, k: usize) -> (u32, i64) {
         match &self.form {
+            Form::Empty => NO_ARC,
             Form::One(row) => row.at(k),
             Form::Many(lists) => lists.at(k),
         }
@@ -118,6 +124,7 @@ impl Arcs for PagedRow {
     #[inline]
     fn arc_near(&self, k: usize, near: &mut Near) -> (u32, i64) {
         match &self.form {
+            Form::Empty => NO_ARC,
             Form::One(row) => row.at(k),
             Form::Many(lists) => {
                 let (arc, page) = lists.at_near(k, near.page);
@@ -129,6 +136,7 @@ impl Arcs for PagedRow {
 
     fn patched(&self, alloc: Global, patch: &[(u32, Option<i64>)]) -> Result<Self, AllocError> {
         match &self.form {
+            Form::Empty => patched_row(alloc, &Row::new(alloc), patch),
             Form::One(row) => patched_row(alloc, row, patch),
             Form::Many(lists) => patched_lists(alloc, lists, patch),
         }
