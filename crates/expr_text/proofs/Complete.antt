@@ -1,7 +1,7 @@
 -- What the grammar spells is read.
 use Rattle.std.proofs.Common.{◌≡◌, ℕ, ◌+◌, ◌<◌, ◌≤◌, true, cond, List, [], ◌∷◌, ◌++◌, length}
 use Rattle.std.proofs.Common.{Option, Some, None, Result, Ok, Err, refl, ◌∙◌, ap, arith, pos}
-use Rattle.std.specs.Prelude.{◌==◌, nat_lt, nat_le, neg_ℤ, ◌^◌}
+use Rattle.std.specs.Prelude.{nat_lt, nat_le, neg_ℤ, ◌^◌}
 use Rattle.std.proofs.lemmas.Bool.Decides.{nat_tests}
 use Rattle.vertex_expr.specs.Tree.{Tree, literal, nodes, least, greatest, clamp, choose, Level}
 use Rattle.vertex_expr.specs.Tree.{sums, products, operands}
@@ -30,10 +30,10 @@ use Rattle.expr_text.specs.declared.reading.Due.TheVariants.{OpenBracket, Index,
 use Rattle.expr_text.specs.declared.reading.Due.TheVariants.{Operator}
 use Rattle.expr_text.specs.declared.reading.Reading.{Reading}
 use Rattle.vertex_expr.specs.Writable.{Scope}
-use Rattle.expr_text.specs.Reading.{Meaning, meaning_of, leaf, lane, call, counted, opened, taken}
-use Rattle.expr_text.specs.Reading.{fresh, first_of, step, ◌>>=◌, named, lane_of, signed, scaled}
-use Rattle.expr_text.specs.Reading.{product_of, factor_of, after_comma, after_compare, closed}
-use Rattle.expr_text.specs.Reading.{moved, shut, popped, at_operand}
+use Rattle.expr_text.specs.Reading.{Meaning, meaning_of, leaf, lane, call, counted, taken}
+use Rattle.expr_text.specs.Reading.{first_of, step, ◌>>=◌, named, lane_of, signed, scaled}
+use Rattle.expr_text.specs.Reading.{product_of, factor_of, after_comma, closed}
+use Rattle.expr_text.specs.Reading.{moved, shut}
 use Rattle.expr_text.specs.Grammar.{go, IsSign, factor_mark, compare_mark, Spells, product, sum}
 use Rattle.expr_text.specs.Grammar.{operand, multiple, numeral, negative, name, indexed, group}
 use Rattle.expr_text.specs.Grammar.{least_call, greatest_call, clamp_call, choice}

@@ -1,6 +1,6 @@
 -- What was read of an expression, as the grammar spells it.
 use Rattle.std.proofs.Common.{◌≡◌, ℕ, ◌+◌, ◌<◌, ◌≤◌, List, [], ◌∷◌, ◌++◌, length, Option, Some}
-use Rattle.std.proofs.Common.{None, Result, Ok, Err, refl, ap, suc, pos}
+use Rattle.std.proofs.Common.{None, Result, Ok, Err, suc, pos}
 use Rattle.std.specs.Prelude.{neg_ℤ, ◌^◌}
 use Rattle.vertex_expr.specs.Tree.{Tree, literal, sums, products}
 use Rattle.text_words.specs.Token.{Token, number, word, dash, mark}
