@@ -1,0 +1,5 @@
+mod DrawLemmas
+mod EditLemmas
+mod EdgeLemmas
+pub mod FewEnds
+pub mod MadeLemmas
