@@ -14,8 +14,7 @@ use std::marker::Model;
 const NO_ARC: (u32, i64) = (0, 0);
 
 // A row without arcs takes no memory. One that fits a page is that page. Another one has an index
-// of
-// lists of pages, each with an index of its own.
+// of lists of pages, each with an index of its own.
 #[derive(Drop)]
 enum Form {
     Empty,
