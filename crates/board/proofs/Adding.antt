@@ -19,13 +19,13 @@ is_moved xs ys n = Unit {0}
 exchange_goes : (log v : List Entry) (e : Entry) (old : ℕ) → length v ≡ old → IsPrefix v log
     → (b : Bool) → (length log == old) ≡ b
     → Goes IsKept no_entry_shown is_moved 0 (v, (no_nib, None))
-        (λ n. either (n == old) (old + 1) n) (Adds (step 0 old (old + 1) e) (v, (no_nib, None)))
-            ((length log, true) ∷ (0, true) ∷ []) log
+    (λ n. either (n == old) (old + 1) n) (Adds (step 0 old (old + 1) e) (v, (no_nib, None)))
+    ((length log, true) ∷ (0, true) ∷ []) log
 exchange_goes log v e old len pre true is =
     let here : length log ≡ old = grind (arith, nat_tests) in
     let same : v ≡ log = whole_prefix_is_all v log pre (omega arith) in
     let n : either (length log == old) (old + 1) (length log)
-        ≡ length (log ++ e ∷ []) = rw is (omega (arith, length-append log (e ∷ []))) in (
+    ≡ length (log ++ e ∷ []) = rw is (omega (arith, length-append log (e ∷ []))) in (
       keeps,
       e ∷ [],
       None,
@@ -37,7 +37,7 @@ exchange_goes log v e old len pre true is =
 exchange_goes log v e old len pre false is =
     let all : log ++ [] ≡ log = append-nil log in
     let n : either (length log == old) (old + 1) (length log)
-        ≡ length (log ++ []) = rw is (ap length (sym all)) in (
+    ≡ length (log ++ []) = rw is (ap length (sym all)) in (
       keeps,
       [],
       None,
@@ -51,11 +51,15 @@ exchange_goes log v e old len pre false is =
 -- longer
 pub exchange_adds : (v : List Entry) (e : Entry) (old : ℕ) → length v ≡ old
     → Moves IsKept no_entry_shown is_moved 0 (v, (no_nib, None))
-        (λ n. either (n == old) (old + 1) n) (Adds (step 0 old (old + 1) e) (v, (no_nib, None)))
+    (λ n. either (n == old) (old + 1) n) (Adds (step 0 old (old + 1) e) (v, (no_nib, None)))
 exchange_adds v e old len cs log kept pre away =
     let P : List Cell → Type 0 = λ c. (0 < length c) × ((cell c 0).1 ≡ true)
-        × Goes IsKept no_entry_shown is_moved 0 (v, (no_nib, None))
-            (λ n. either (n == old) (old + 1) n)
-                (Adds (step 0 old (old + 1) e) (v, (no_nib, None))) c log in
-    subst P (sym kept) (omega arith, refl, exchange_goes log v e old len pre (length log == old)
-        refl)
+    × Goes IsKept no_entry_shown is_moved 0 (v, (no_nib, None))
+    (λ n. either (n == old) (old + 1) n)
+    (Adds (step 0 old (old + 1) e) (v, (no_nib, None))) c log in
+    subst P (sym kept) (
+      omega arith,
+      refl,
+      exchange_goes log v e old len pre (length log == old)
+          refl,
+    )

@@ -58,20 +58,22 @@ pub rule_turns : (seat : ℕ) (v : Mark) (x y : Face) → ((sheet_of y).mark ≡
     → (IsRight (sheet_of x) → IsRight (sheet_of y)) → TurnsAt Agrees seat v x y Looks
 rule_turns seat v x y here right views h at =
     let m = (sheet_of y).mark in
-    let old : Knows m views = subst (λ (z : Mark). Knows z views) (sym here) h.1 in
-    (m,
-    (right h.0, known_by_another m views seat m old (λ _. refl)),
-    (right h.0, refl, old seat v at))
+    let old : Knows m views = subst (λ (z : Mark). Knows z views) (sym here) h.1 in (
+      m,
+      (right h.0, known_by_another m views seat m old (λ _. refl)),
+      (right h.0, refl, old seat v at),
+    )
 
 pub rule_looks : (seat : ℕ) (v : Mark) (x : Face) → TurnsAt Agrees seat v x x Looks
 rule_looks seat v x = rule_turns seat v x x refl (λ r. r)
 
 pub rule_forks : (seat : ℕ) (v : Mark) → Forks Agrees seat v v v
 rule_forks seat v x views h at =
-    let m = (sheet_of x).mark in
-    (h.0,
-    known_by_one_more m (set views seat v) v
-    (known_by_another m views seat v h.1 (h.1 seat v at)) (h.1 seat v at))
+    let m = (sheet_of x).mark in (
+      h.0,
+      known_by_one_more m (set views seat v) v
+          (known_by_another m views seat v h.1 (h.1 seat v at)) (h.1 seat v at),
+    )
 
 pub rule_merges : (seat : ℕ) (v : Mark) (other : ℕ) (w : Mark)
     → Merges Agrees seat v other w w stranger
@@ -80,10 +82,11 @@ rule_merges seat v other w x views h at apart there =
     let known : w.known ≡ true → w ≡ m =
     ⊎_elim (λ (t : (other ≡ seat) × (w ≡ w)). absurd (apart t.0))
     (λ (t : (other ≢ seat) × (get_elem? views other ≡ some w)). h.1 other w t.1)
-    (at_set views seat other w w there) in
-    (h.0,
-    known_by_another m (set views seat w) other stranger
-    (known_by_another m views seat w h.1 known) (λ e. absurd (true≢false (sym e))))
+    (at_set views seat other w w there) in (
+      h.0,
+      known_by_another m (set views seat w) other stranger
+          (known_by_another m views seat w h.1 known) (λ e. absurd (true≢false (sym e))),
+    )
 
 -- the sheet after a note whose round follows
 pub note_keeps_right : (s : Sheet) (p : Put) → IsNext s p → IsRight s
@@ -98,7 +101,7 @@ note_keeps_right s p next right =
     ∙ changes_find_room s.room p.note.changes (shows o log) next.room
     ∙ sym (shows_round_more o log r) in
     let move : (Q : Origin → List Round → Type 0) → Q o (log ++ r ∷ [])
-        → Q (origin_of p.front.seen.log) (rounds_of p.front.seen.log) =
+    → Q (origin_of p.front.seen.log) (rounds_of p.front.seen.log) =
     λ Q h. subst (λ (q : Origin). Q q (rounds_of p.front.seen.log)) (sym same)
     (subst (Q o) (sym next.log) h) in
     record {
@@ -121,7 +124,7 @@ begins_right p g s here none start fits =
     let whole = (values_whole p g p.rounds).each_vertex in
     let few : length (answer p g) ≤ s.room = omega (arith, whole, fits) in
     let move : (Q : Origin → List Round → Type 0) → Q (origin p g) []
-        → Q s.mark.origin (rounds_of s.log) =
+    → Q s.mark.origin (rounds_of s.log) =
     λ Q h. subst (λ (q : Origin). Q q (rounds_of s.log)) (sym here)
     (subst (Q (origin p g)) (sym none) h) in
     record {

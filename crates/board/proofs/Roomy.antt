@@ -57,7 +57,7 @@ changes_find_room room (c ∷ cs) values few =
     let most = changes_lose_none cs (with_change values c) in
     let here = change_finds_room room values c (omega (arith, few, most)) in
     ap (λ xs. with_changes_in room xs cs) here
-        ∙ changes_find_room room cs (with_change values c) few
+    ∙ changes_find_room room cs (with_change values c) few
 
 -- ---- one change of places, of which the first ones are in use
 module _ (places : Lists) (used v : ℕ) (x : List ℤ) (fits : used ≤ length places) where

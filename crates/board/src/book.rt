@@ -8,8 +8,8 @@ ghost use Rattle.board.specs.Log.{round_of, rounds_of, origin, origin_of};
 use crate::kinds::Entry;
 use crate::note::RoundNote;
 use adjacency::Adjacency;
-use range_check::Accepted;
 use logbook::{Gain, Offer, Plain, Play, Rule, Seen, Start, Word};
+use range_check::Accepted;
 use std::marker::PhantomData;
 use std::sync::Wait;
 use std::thread::yield_now;
@@ -150,10 +150,7 @@ fn append_entry<X, M: Plain<X, Entry, u64>, R: Wait>(
 }
 
 /// A new book, whose log has the origin alone.
-pub(crate) fn open_book<A: Adjacency, R: Wait>(
-    rt: &R,
-    grounds: &Grounds<'_, A>,
-) -> (Head, Receipt)
+pub(crate) fn open_book<A: Adjacency, R: Wait>(rt: &R, grounds: &Grounds<'_, A>) -> (Head, Receipt)
     ensures head { result.0 ≡ head_of result.1.seen.book }
     ensures origin { origin_of result.1.seen.log
         ≡ origin grounds.now.accepted.now (A.plain grounds.now.graph.now) }

@@ -129,8 +129,11 @@ impl Model for Desk {
     ghost coded = { Prim.hlevel (codes, origin_kind.the_row.coded) };
 
     ghost view = { λ d. record {
-        book = d.own.seen.book; origin = (seat_view d.reader.place).origin;
-        seen = rounds_of d.own.seen.log; told = rounds_of d.told.seen.log } };
+      book = d.own.seen.book;
+      origin = (seat_view d.reader.place).origin;
+      seen = rounds_of d.own.seen.log;
+      told = rounds_of d.told.seen.log;
+    } };
 
     ghost invariant = { λ d.
         (mark_of d.own.seen.book (seat_view d.reader.place).origin ≡ seat_view d.reader.place)
@@ -142,8 +145,11 @@ impl Desk {
     pub(crate) fn new(reader: DeskReader, own: Receipt) -> Desk
         requires { mark_of own.seen.book (view reader.place).origin ≡ view reader.place }
         ensures { result ≡ record {
-            book = own.seen.book; origin = (view reader.place).origin;
-            seen = rounds_of own.seen.log; told = rounds_of own.seen.log } }
+          book = own.seen.book;
+          origin = (view reader.place).origin;
+          seen = rounds_of own.seen.log;
+          told = rounds_of own.seen.log;
+        } }
     {
         let told = own.again();
         Desk { reader, own, told }

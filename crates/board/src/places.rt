@@ -19,8 +19,10 @@ impl Model for Places {
 
     ghost Value = { Hall };
 
-    ghost view = { λ p. record { values = take p.used p.places.items;
-        room = length p.places.items } };
+    ghost view = { λ p. record {
+      values = take p.used p.places.items;
+      room = length p.places.items;
+    } };
 
     ghost invariant = { λ p. (p.used ≤ length p.places.items)
         × (length p.places.items < 2 ^ 32) };
@@ -64,7 +66,8 @@ impl Places {
     // Writes the value of a vertex, or that of the next vertex where there is room for it.
     fn put(&mut self, change: &AnswerChange)
         ensures { self.new ≡ record self.old {
-            values = with_change_in self.old.room self.old.values change.now } }
+          values = with_change_in self.old.room self.old.values change.now;
+        } }
     {
         let vertex = change.vertex;
         if vertex < self.used {
@@ -78,7 +81,8 @@ impl Places {
     /// Takes changes in, in order.
     pub fn put_all(&mut self, changes: &[AnswerChange])
         ensures { self.new ≡ record self.old {
-            values = with_changes_in self.old.room self.old.values changes.now } }
+          values = with_changes_in self.old.room self.old.values changes.now;
+        } }
     {
         for change in changes {
             self.put(change);

@@ -48,7 +48,7 @@ fn show_once<R: Wait>(
     ensures none { drop result.0.behind result.0.log.items ≡ [] }
     ensures sheet { MatchResult result.1
         (λ _. sheet_of result.0.desk.shown.value
-            ≡ changed (sheet_of writer.desk.shown.value) change)
+        ≡ changed (sheet_of writer.desk.shown.value) change)
         (λ x. (x ≡ change)
         × (sheet_of result.0.desk.shown.value ≡ sheet_of writer.desk.shown.value)) }
     ensures view { MatchResult result.1
@@ -207,9 +207,12 @@ impl Model for Publisher {
     ghost coded = { Prim.hlevel (codes, origin_kind.the_row.coded) };
 
     ghost view = { λ d. record {
-        book = d.tip.seen.book; origin = origin_of d.tip.seen.log;
-        room = (sheet_of d.writer.desk.shown.value).room;
-        log = rounds_of d.tip.seen.log; held = option_map round_of d.held } };
+      book = d.tip.seen.book;
+      origin = origin_of d.tip.seen.log;
+      room = (sheet_of d.writer.desk.shown.value).room;
+      log = rounds_of d.tip.seen.log;
+      held = option_map round_of d.held;
+    } };
 
     ghost invariant = { λ d.
         (mark_of d.tip.seen.book (origin_of d.tip.seen.log) ≡ seat_view d.writer.desk.place)
@@ -299,8 +302,12 @@ pub fn open<A: Adjacency, R: Wait>(
     requires start { start.now ≡ answer accepted.now (A.plain graph.now) }
     requires room { vertices (A.plain graph.now) ≤ room }
     ensures publisher { IfOk result (λ r. r.0 ≡ record {
-        book = r.0.book; origin = origin accepted.now (A.plain graph.now);
-        room = room; log = []; held = None }) }
+      book = r.0.book;
+      origin = origin accepted.now (A.plain graph.now);
+      room = room;
+      log = [];
+      held = None;
+    }) }
     ensures desks { IfOk result (λ r. (length r.1 ≡ desks)
         × All (λ d. d ≡ new_post r.0.book (origin accepted.now (A.plain graph.now))) r.1) }
 {

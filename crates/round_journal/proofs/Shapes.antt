@@ -97,9 +97,10 @@ shape_takes_entry es d e h few none =
       few = omega arith;
       decided_first = λ k x at.
           ⊎_elim (λ (a : slice_get es k ≡ Some x). h.decided_first k x a)
-          (λ (b : (k ≡ length es) × (e ≡ x)).
-          ((λ low. absurd (let q = b.0 in omega arith)),
-          λ _. ap (λ (y : Entered). y.outcome) (sym b.1) ∙ none))
+          (λ (b : (k ≡ length es) × (e ≡ x)). (
+            (λ low. absurd (let q = b.0 in omega arith)),
+            λ _. ap (λ (y : Entered). y.outcome) (sym b.1) ∙ none,
+          ))
           (get_pushed es e x k at);
       rounds = λ k x at.
           ⊎_elim (λ (a : slice_get es k ≡ Some x).
@@ -126,9 +127,10 @@ shape_takes_outcome es d o x h here round =
       within = omega arith;
       few = omega arith;
       decided_first = λ k y at. ⊎_elim
-          (λ (a : (k ≡ d) × (new ≡ y)).
-          ((λ _. ap (λ (z : Entered). is_some z.outcome) (sym a.1)),
-          λ le. absurd (let q = a.0 in omega arith)))
+          (λ (a : (k ≡ d) × (new ≡ y)). (
+            (λ _. ap (λ (z : Entered). is_some z.outcome) (sym a.1)),
+            λ le. absurd (let q = a.0 in omega arith),
+          ))
           (λ (b : (k ≢ d) × (slice_get es k ≡ Some y)).
           let p = h.decided_first k y b.1 in
           let ne = b.0 in

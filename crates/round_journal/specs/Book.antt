@@ -53,8 +53,10 @@ is_closed b origin = slice_index_or b.closed origin true
 -- the batch behind the entries, undecided
 abbrev pub with_entry : Book → ℕ → BatchText → Book
 with_entry b origin batch =
-    record b { entries = b.entries ++ record { origin = origin; batch = batch; outcome = None } ∷
-        [] }
+    record b {
+      entries = b.entries ++ record { origin = origin; batch = batch; outcome = None } ∷
+          [];
+    }
 
 -- why a batch isn't entered, want of memory aside
 abbrev pub refusal : Book → ℕ → BatchText → Option EnterError

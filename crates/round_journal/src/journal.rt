@@ -39,9 +39,13 @@ pub enum EnterError {
         limit: u32,
     },
     /// The origin is closed.
-    Closed { batch: BatchText },
+    Closed {
+        batch: BatchText,
+    },
     /// Memory is wanting.
-    Memory { batch: BatchText },
+    Memory {
+        batch: BatchText,
+    },
 }
 
 /// Batches that origins entered, and what became of them. Tickets count the entries from 1. The
@@ -61,7 +65,10 @@ impl Model for Journal {
     ghost Value = { Book };
 
     ghost view = { λ j. record {
-        entries = j.entries.items; decided = j.decided; closed = j.closed } };
+      entries = j.entries.items;
+      decided = j.decided;
+      closed = j.closed;
+    } };
 
     ghost invariant = { λ j. IsShaped j.entries.items j.decided
         × (j.accepted ≡ accepted_count j.entries.items) × (length j.closed ≡ 16) };
@@ -83,8 +90,11 @@ impl Journal {
     pub fn new(alloc: Global, origins: u32) -> Result<Journal, Memory>
         requires some { 1 ≤ origins }
         requires few { origins ≤ MOST_ORIGINS }
-        ensures { IfOk result (λ j. j ≡ record { entries = []; decided = 0;
-            closed = replicate origins false ++ replicate (MOST_ORIGINS - origins) true }) }
+        ensures { IfOk result (λ j. j ≡ record {
+          entries = [];
+          decided = 0;
+          closed = replicate origins false ++ replicate (MOST_ORIGINS - origins) true;
+        }) }
     {
         let entries = Vec::with_capacity(alloc, MOST_PENDING)?;
         let mut closed = [true; MOST_ORIGINS];
@@ -184,8 +194,11 @@ impl Journal {
     pub fn entry(&self, ticket: u64) -> JournalEntry<'_>
         requires some { 1 ≤ ticket }
         requires there { ticket ≤ length self.now.entries }
-        ensures { entry_of self.now ticket ≡ Some (record { origin = result.origin;
-            batch = result.batch.now; outcome = option_copied result.outcome }) }
+        ensures { entry_of self.now ticket ≡ Some (record {
+          origin = result.origin;
+          batch = result.batch.now;
+          outcome = option_copied result.outcome;
+        }) }
     {
         let entry = &self.entries[(ticket - 1) as usize];
         JournalEntry {
@@ -223,9 +236,11 @@ impl Journal {
         requires there { ticket ≤ length self.old.entries }
         requires round { IsRound (accepted_count self.old.entries + 1) (Some outcome) }
         ensures decided { (e : Entered) → entry_of self.old ticket ≡ Some e
-            → self.new ≡ record self.old { decided = ticket;
-            entries = slice_set self.old.entries (ticket - 1) (record e { outcome = Some outcome })
-                } }
+            → self.new ≡ record self.old {
+              decided = ticket;
+              entries = slice_set self.old.entries (ticket - 1)
+                  (record e { outcome = Some outcome });
+            } }
         ensures replays { (p : ProgramEntries) (g : Graph) (c : Choice) (e : Entered)
             → entry_of self.old ticket ≡ Some e
             → (outcome ≡ NoMemory) ⊎ (outcome ≡ outcome_after p g c self.old.entries e.batch)

@@ -15,7 +15,10 @@ pub enum Outcome {
         visits: u64,
     },
     /// Its first bad line, by its number, and why it is bad.
-    Refused { line: u64, cause: LineCause },
+    Refused {
+        line: u64,
+        cause: LineCause,
+    },
     /// Memory was wanting.
     Memory,
 }

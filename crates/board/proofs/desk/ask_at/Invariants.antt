@@ -5,4 +5,4 @@ use Rattle.board.proofs.desk.ask_at.Given as goal
 abbrev pub invariant-loop : goal.invariant-loop
 invariant-loop g l =
     (goal.iterator-loop g).can_next l.iterator' × (goal.iterator-loop g).is_finite l.iterator'
-        × (view l.reader.place ≡ view l.fn.reader.place)
+    × (view l.reader.place ≡ view l.fn.reader.place)

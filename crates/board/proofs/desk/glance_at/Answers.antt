@@ -15,4 +15,4 @@ meaning-requires-clause-lane c =
 pub returns-clause-body : goal.returns-clause-body
 returns-clause-body c =
     c.meaning.ensures ∙ ap (means c.args.query.now)
-        (c.values.ensures.values ∙ c.requires.right.answer)
+    (c.values.ensures.values ∙ c.requires.right.answer)

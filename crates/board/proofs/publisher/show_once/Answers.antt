@@ -12,15 +12,15 @@ publish_as-writer-requires g c next is =
     let change = c.args.change in
     let pending : drop w.behind w.log.items ≡ change ∷ [] = search rules in
     let step : sheet_of next ≡ changed (sheet_of x) change = is
-        ∙ ap (λ l. fold changed (sheet_of x) l) pending in
+    ∙ ap (λ l. fold changed (sheet_of x) l) pending in
     let same : c.args.writer.desk.shown.value
-        ≡ x = sym (ap (λ d. d.shown.value) c.append.ensures.desk) in
+    ≡ x = sym (ap (λ d. d.shown.value) c.append.ensures.desk) in
     let board : (changed (sheet_of x) change).mark
-        ≡ (sheet_of x).mark = subst (λ (z : Face). (changed (sheet_of z) change).mark
-            ≡ (sheet_of z).mark) same c.requires.board in
+    ≡ (sheet_of x).mark = subst (λ (z : Face). (changed (sheet_of z) change).mark
+    ≡ (sheet_of z).mark) same c.requires.board in
     let right : IsRight (sheet_of x)
-        → IsRight (changed (sheet_of x) change) = subst
-            (λ (z : Face). IsRight (sheet_of z) → IsRight (changed (sheet_of z) change)) same
-                c.requires.right in
+    → IsRight (changed (sheet_of x) change) = subst
+    (λ (z : Face). IsRight (sheet_of z) → IsRight (changed (sheet_of z) change)) same
+    c.requires.right in
     rule_turns _ _ x next (ap (λ (s : Sheet). s.mark) step ∙ board)
-        (λ r. subst IsRight (sym step) (right r))
+    (λ r. subst IsRight (sym step) (right r))

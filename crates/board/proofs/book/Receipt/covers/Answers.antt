@@ -10,11 +10,11 @@ returns-clause-more c t =
     let mine = c.args.self.now.seen.log in
     let other = c.args.other.now.seen.log in
     let own : IsPrefix mine both = subst (λ (l : List Entry). IsPrefix l both)
-        (ap (λ s. s.log) c.again-both.ensures) c.learn.ensures.2 in
+    (ap (λ s. s.log) c.again-both.ensures) c.learn.ensures.2 in
     let less : length other ≤ length mine = search rules in
     let some : 0 < length other = search rules in
     rounds_begin_too other mine some
-        (shorter_begins_longer other mine both c.learn.ensures.3 own less)
+    (shorter_begins_longer other mine both c.learn.ensures.3 own less)
 
 pub returns-clause-less : goal.returns-clause-less
 returns-clause-less c t =
@@ -22,8 +22,8 @@ returns-clause-less c t =
     let mine = c.args.self.now.seen.log in
     let other = c.args.other.now.seen.log in
     let own : IsPrefix mine both = subst (λ (l : List Entry). IsPrefix l both)
-        (ap (λ s. s.log) c.again-both.ensures) c.learn.ensures.2 in
+    (ap (λ s. s.log) c.again-both.ensures) c.learn.ensures.2 in
     let less : length mine ≤ length other = search rules in
     let some : 0 < length mine = search rules in
     rounds_begin_too mine other some
-        (shorter_begins_longer mine other both own c.learn.ensures.3 less)
+    (shorter_begins_longer mine other both own c.learn.ensures.3 less)

@@ -24,11 +24,13 @@ invariant_of-self c =
     let open_ : x.outcome ≡ None = (inv.0.decided_first d x at).1 (omega arith) in
     let round : IsRound (accepted_count es + 1) (Some c.args.outcome) =
     subst (λ (n : ℕ). IsRound (n + 1) (Some c.args.outcome))
-    (sym (ap (λ (b : Book). accepted_count b.entries) c.self.view_is)) c.requires.round in
-    (shape_takes_outcome es d c.args.outcome x inv.0 at round,
-    c.rounds_after-self-inside.ensures
-    ∙ ap (λ (n : ℕ). n + one_if_accepted (Some c.args.outcome)) inv.1
-    ∙ sym (decided_is_counted es d c.args.outcome x at open_), inv.2)
+    (sym (ap (λ (b : Book). accepted_count b.entries) c.self.view_is)) c.requires.round in (
+      shape_takes_outcome es d c.args.outcome x inv.0 at round,
+      c.rounds_after-self-inside.ensures
+          ∙ ap (λ (n : ℕ). n + one_if_accepted (Some c.args.outcome)) inv.1
+          ∙ sym (decided_is_counted es d c.args.outcome x at open_),
+      inv.2,
+    )
 
 pub returns-clause-replays : goal.returns-clause-replays
 returns-clause-replays c p g choice e at due old =

@@ -14,8 +14,10 @@ invariant_of-self c = elim c.match-push.branch [
       let most = shape.few in
       let few : length c.self.inside.entries.items < c.self.inside.decided + 64 =
       omega (arith, c.len.ensures, c.if-len-self-eq-MOST_PENDING.false, within, most) in
-      rw w.in-Ok.ensures.items
-      (shape_takes_entry _ _ e shape few refl, inv.1 ∙ sym (undecided_counts_nothing _ e refl),
-      inv.2))
+      rw w.in-Ok.ensures.items (
+        shape_takes_entry _ _ e shape few refl,
+        inv.1 ∙ sym (undecided_counts_nothing _ e refl),
+        inv.2,
+      ))
   | in-Err w ↦ rw w.in-Err.ensures.items c.self.invariant
 ]
