@@ -14,7 +14,7 @@ use Rattle.std.proofs.lemmas.Cmp.{ranked}
 use Rattle.std.proofs.lemmas.List.Elements.{recursion_from_All}
 use Rattle.bolt_base.specs.Graph.{Graph, Pair, pair_cmp, edge, edges, outdeg, indeg}
 use Rattle.bolt_base.specs.declared.edge.Edge.{Edge}
-use Rattle.bolt_base.proofs.SortedKeys.{both, under}
+use Rattle.bolt_base.proofs.SortedKeys.{both_hold, is_lt-less}
 
 abbrev Entry : Type 0
 Entry = Pair × ℤ
@@ -26,7 +26,7 @@ numbers_tie s u e = grind (arith, nat_tests)
 next_dst : (e f : Entry) → T (is_lt (pair_cmp e.0 f.0)) → (edge e).src ≡ (edge f).src
     → (edge e).dst < (edge f).dst
 next_dst e f h same =
-    under e.0.1 f.0.1 (subst (λ r. T (is_lt (ordering_then r (nat_cmp e.0.1 f.0.1))))
+    is_lt-less e.0.1 f.0.1 (subst (λ r. T (is_lt (ordering_then r (nat_cmp e.0.1 f.0.1))))
     (numbers_tie e.0.0 f.0.0 same) h)
 
 -- into one destination a later edge has a greater source
@@ -57,7 +57,7 @@ module _ (side other : Edge → ℕ) (next : (e f : Entry) → T (is_lt (pair_cm
   unfolding AreFrom
   later_from e u [] h same = tt
   later_from e u (f ∷ es) h same =
-      let parts = both (is_lt (pair_cmp e.0 f.0)) (below_all pair_cmp e.0 es) h in (
+      let parts = both_hold (is_lt (pair_cmp e.0 f.0)) (below_all pair_cmp e.0 es) h in (
         λ at. let up = next e f parts.0 (same ∙ sym at) in omega arith,
         later_from e u es parts.1
             same,
@@ -69,7 +69,7 @@ module _ (side other : Edge → ℕ) (next : (e f : Entry) → T (is_lt (pair_cm
   unfolding AreFrom
   few_from n u lo [] s from small l = omega arith
   few_from n u lo (e ∷ es) s from small l =
-      let parts = both (below_all pair_cmp e.0 es) (is_sorted pair_cmp es) s in
+      let parts = both_hold (below_all pair_cmp e.0 es) (is_sorted pair_cmp es) s in
       let rest : List Edge = filter (λ (x : Edge). eqb (side x) u) (map edge es) in
       let all : List Edge = filter (λ (x : Edge). eqb (side x) u) (map edge (e ∷ es)) in
       elim (cases_Bool (eqb (side (edge e)) u)) [
