@@ -1,19 +1,36 @@
 -- How many edges are read.
-use Rattle.std.proofs.Common.{◌≡◌, ℕ, ◌+◌, ◌-◌, ◌*◌, ◌<◌, ◌≤◌, length, ap, ◌∙◌, arith}
-use Rattle.std.specs.Prelude.{sum_by}
-use Rattle.std.specs.List.{range_with_len}
-use Rattle.bolt_base.specs.Graph.{Graph, IsGood, vertices, edges, indeg}
+use Rattle.std.proofs.Common.{◌≡◌, ℕ, ◌+◌, ◌-◌, ◌*◌, ◌<◌, ◌≤◌, ◌++◌, List, [], ◌∷◌, length, sym}
+use Rattle.std.proofs.Common.{ap, ◌∙◌, arith}
+use Rattle.std.specs.List.{All, range_with_len}
+use Rattle.std.proofs.lemmas.List.FromFn.{get_or-range_with_len, length-range_with_len}
+use Rattle.std.proofs.lemmas.List.FromFn.{map-range_with_len_more}
+use Rattle.std.proofs.lemmas.List.{map-id}
+use Rattle.bolt_base.specs.Graph.{Graph, IsGood, vertices, edges}
 use Rattle.bolt_base.specs.declared.limits.Limits.{Limits}
 use Rattle.bolt_base.proofs.Degrees.{all_in}
-use Rattle.sync_engine.proofs.Spans.{span}
+use Rattle.run_model.specs.Visits.{in_visits}
 
--- all edges are read where those into each vertex are
-pub all_read : (l : Limits) (h : Graph) (n : ℕ) → IsGood l h → n ≡ vertices h
-    → sum_by (indeg h) (span 0 n) ≡ length (edges h)
-all_read l h n good all =
-    let none : vertices h - 0 ≡ vertices h = omega arith in
-    ap (λ k. sum_by (indeg h) (span 0 k)) all ∙ ap (λ k. sum_by (indeg h) (range_with_len 0 k)) none
-    ∙ all_in h good.ends
+-- the edges into all vertices are all edges
+all_read : (l : Limits) (h : Graph) → IsGood l h
+    → in_visits h (range_with_len 0 (vertices h)) ≡ length (edges h)
+all_read l h good = all_in h good.ends
+
+pub these_read : (l : Limits) (h : Graph) (all : List ℕ) → IsGood l h
+    → all ≡ range_with_len 0 (vertices h) → in_visits h all ≡ length (edges h)
+these_read l h all good is = ap (in_visits h) is ∙ all_read l h good
+
+-- the numbers below n are below n
+pub all_below : (n : ℕ) → All (λ v. v < n) (range_with_len 0 n)
+all_below n k d small =
+    let long = length-range_with_len 0 n in
+    let is = get_or-range_with_len 0 n k d (omega arith) in
+    omega arith
+
+pub range_more : (k : ℕ) → range_with_len 0 (k + 1) ≡ range_with_len 0 k ++ k ∷ []
+range_more k =
+    sym (map-id (range_with_len 0 (k + 1)))
+    ∙ map-range_with_len_more (λ x. x) 0 k k (omega arith)
+    ∙ ap (λ xs. xs ++ k ∷ []) (map-id (range_with_len 0 k))
 
 -- ---- rounds of so many reads each
 pub more_rounds : (i e : ℕ) → (i + 1) * e ≡ i * e + e

@@ -1,5 +1,2 @@
-pub mod Pulls
-pub mod Spans
 pub mod Counts
 pub mod Rounds
-pub mod Adding

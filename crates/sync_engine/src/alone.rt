@@ -5,12 +5,12 @@ ghost use Rattle.range_check.specs.Breaks.{IsAccepted};
 ghost use Rattle.run_model.specs.Rows.{applied, at, begun, each_vertex, gathered};
 ghost use Rattle.run_model.specs.Given.{IsBefore, source_gives};
 
-use crate::contributions::source_gives;
-use crate::values::{first_value, next_value};
+use crate::values::next_value_of;
 use adjacency::Adjacency;
 use bolt_base::{Lanes, Memory};
 use std::alloc::Global;
 use vertex_expr::Program;
+use vertex_steps::{ValueRow, first_value, source_gives};
 
 /// The first values.
 pub fn first_values_alone<A: Adjacency>(
@@ -50,27 +50,27 @@ pub fn next_values_alone<A: Adjacency>(
     let vertices = graph.vertices();
     let mut next = Vec::with_capacity(alloc, vertices as usize)?;
     for v in 0..vertices {
-        next.push(next_value(program, graph, aggs, vals, v))?;
+        next.push(next_value_of(program, graph, aggs, vals, v))?;
     }
     Ok(next)
 }
 
 /// What the edges out of each vertex give after a row of values, where weights don't matter.
-pub fn sources_give_alone<A: Adjacency>(
+pub fn sources_give_alone<A: Adjacency, V: ValueRow>(
     alloc: Global,
     program: &Program,
     graph: &A,
-    vals: &[Lanes],
+    row: &V,
 ) -> Result<Vec<Lanes>, Memory>
-    requires before { IsBefore program.now (A.plain graph.now) vals.now }
+    requires before { IsBefore program.now (A.plain graph.now) (V.values row.now) }
     ensures { IfOk result (λ given.
         given.items ≡ each_vertex (A.plain graph.now)
-        (source_gives program.now (A.plain graph.now) vals.now)) }
+        (source_gives program.now (A.plain graph.now) (V.values row.now))) }
 {
     let vertices = graph.vertices();
     let mut given = Vec::with_capacity(alloc, vertices as usize)?;
     for u in 0..vertices {
-        given.push(source_gives(program, graph, vals, u))?;
+        given.push(source_gives(program, graph, row, u))?;
     }
     Ok(given)
 }

@@ -1,5 +1,6 @@
 // All iterations of a run.
 ghost use Rattle.std.specs.Prelude.{◌≡◌, ◌<◌, ◌≤◌, ◌+◌, ◌-◌, ◌*◌, ◌^◌, ℕ, IfOk, length};
+ghost use Rattle.std.specs.List.{range_with_len};
 ghost use Rattle.bolt_base.specs.Graph.{IsGood, vertices, edges};
 ghost use Rattle.range_check.specs.Breaks.{IsAccepted};
 ghost use Rattle.run_model.specs.Program.{lanes};
@@ -7,14 +8,15 @@ ghost use Rattle.run_model.specs.Rows.{applied, at, each_vertex, gathered, row, 
 ghost use Rattle.run_model.specs.Visits.{opening_visits};
 ghost use Rattle.run_model.specs.Given.{IsBefore};
 
-use crate::halves::pull_by;
 use crate::tables::{contributions, first_values, next_values};
 use adjacency::{Adjacency, Metered};
 use bolt_base::{Answer, Lanes, Memory, Meter, Rows};
+use pull_targets::pull_targets;
 use range_check::Accepted;
 use std::alloc::Global;
 use std::thread::Threads;
 use vertex_expr::Program;
+use vertex_steps::LaneRow;
 
 /// The rows of a run up to the cut, and the values at the last iteration.
 #[derive(Debug, Drop)]
@@ -30,6 +32,55 @@ pub struct FirstRun {
 struct Iteration {
     aggs: Vec<Lanes>,
     vals: Vec<Lanes>,
+}
+
+// All vertices, rising.
+fn all_vertices<A: Adjacency>(alloc: Global, graph: &A) -> Result<Vec<u32>, Memory>
+    ensures { IfOk result (λ all. all.items ≡ range_with_len 0 (vertices (A.plain graph.now))) }
+{
+    let vertices = graph.vertices();
+    let mut all = Vec::with_capacity(alloc, vertices as usize)?;
+    for v in 0..vertices {
+        all.push(v)?;
+    }
+    Ok(all)
+}
+
+// The aggregates after a row of values. It reads each edge once.
+fn aggregates<R: Threads + Sync, M: Meter + Send, A: Metered<M> + Sync>(
+    rt: &R,
+    alloc: Global,
+    program: &Program,
+    graph: &A,
+    vals: &[Lanes],
+    workers: u32,
+    meter: &mut M,
+) -> Result<Vec<Lanes>, Memory>
+    requires before { IsBefore program.now (A.plain graph.now) vals.now }
+    requires some { 1 ≤ workers }
+    requires parts { workers ≤ M.held meter.old }
+    requires room { M.counted meter.old + length (edges (A.plain graph.now)) < 2 ^ 64 }
+    ensures aggs { IfOk result (λ aggs. aggs.items
+        ≡ each_vertex (A.plain graph.now) (gathered program.now (A.plain graph.now) vals.now)) }
+    ensures exact { IfOk result (λ _.
+        M.counted meter.new ≡ M.counted meter.old + length (edges (A.plain graph.now))) }
+    ensures most { M.counted meter.new ≤ M.counted meter.old + length (edges (A.plain graph.now)) }
+    ensures units { M.held meter.new ≡ M.held meter.old }
+{
+    let given = contributions(rt, alloc, program, graph, vals, workers)?;
+    let all = all_vertices(alloc, graph)?;
+    let row = LaneRow { lanes: vals };
+    pull_targets(
+        rt,
+        alloc,
+        program,
+        graph,
+        &row,
+        &given,
+        all.as_slice(),
+        workers,
+        meter,
+    )
 }
 
 // The next iteration. It reads each edge once.
@@ -58,19 +109,7 @@ fn iterate<R: Threads + Sync, M: Meter + Send, A: Metered<M> + Sync>(
     ensures most { M.counted meter.new ≤ M.counted meter.old + length (edges (A.plain graph.now)) }
     ensures units { M.held meter.new ≡ M.held meter.old }
 {
-    let given = contributions(rt, alloc, program, graph, vals, workers)?;
-    let aggs = pull_by(
-        rt,
-        alloc,
-        program,
-        graph,
-        vals,
-        &given,
-        workers,
-        0,
-        graph.vertices(),
-        meter,
-    )?;
+    let aggs = aggregates(rt, alloc, program, graph, vals, workers, meter)?;
     let vals = next_values(rt, alloc, program, graph, &aggs, vals, workers)?;
     Ok(Iteration { aggs, vals })
 }
@@ -185,8 +224,7 @@ fn last_values<R: Threads + Sync, M: Meter + Send, A: Metered<M> + Sync>(
 }
 
 /// The rows of a program on a good graph from iteration 0 to the cut, and the values at its last
-/// iteration. It reads each
-/// edge once in each round.
+/// iteration. It reads each edge once in each round.
 pub fn full_run<R: Threads + Sync, M: Meter + Send, A: Metered<M> + Sync>(
     rt: &R,
     alloc: Global,

@@ -5,14 +5,14 @@ ghost use Rattle.range_check.specs.Breaks.{IsAccepted};
 ghost use Rattle.run_model.specs.Rows.{applied, at, begun, each_vertex, gathered};
 ghost use Rattle.run_model.specs.Given.{IsBefore, source_gives};
 
-use crate::contributions::source_gives;
-use crate::values::{first_value, next_value};
+use crate::values::next_value_of;
 use adjacency::Adjacency;
 use bolt_base::{Lanes, Memory};
 use rayon::prelude::*;
 use std::alloc::Global;
 use std::thread::Threads;
 use vertex_expr::Program;
+use vertex_steps::{ValueRow, first_value, source_gives};
 
 /// The first values.
 pub fn first_values_shared<R: Threads + Sync, A: Adjacency + Sync>(
@@ -67,34 +67,34 @@ pub fn next_values_shared<R: Threads + Sync, A: Adjacency + Sync>(
                 ensures { result ≡ applied program.entry.now (A.plain graph.entry.now)
                     (gathered program.entry.now (A.plain graph.entry.now) vals.entry.now v)
                     (at vals.entry.now v) v }
-            { next_value(program, graph, aggs, vals, v) },
+            { next_value_of(program, graph, aggs, vals, v) },
         )
         .collect(rt, alloc)?;
     Ok(next)
 }
 
 /// What the edges out of each vertex give after a row of values, where weights don't matter.
-pub fn sources_give_shared<R: Threads + Sync, A: Adjacency + Sync>(
+pub fn sources_give_shared<R: Threads + Sync, A: Adjacency + Sync, V: ValueRow + Sync>(
     rt: &R,
     alloc: Global,
     program: &Program,
     graph: &A,
-    vals: &[Lanes],
+    row: &V,
 ) -> Result<Vec<Lanes>, Memory>
-    requires before { IsBefore program.now (A.plain graph.now) vals.now }
+    requires before { IsBefore program.now (A.plain graph.now) (V.values row.now) }
     ensures { IfOk result (λ given.
         given.items ≡ each_vertex (A.plain graph.now)
-        (source_gives program.now (A.plain graph.now) vals.now)) }
+        (source_gives program.now (A.plain graph.now) (V.values row.now))) }
 {
     let given: Vec<Lanes> = (0..graph.vertices())
         .into_par_iter()
         .map(
             |u: u32| -> Lanes
-                requires { IsBefore program.now (A.plain graph.now) vals.now
+                requires { IsBefore program.now (A.plain graph.now) (V.values row.now)
                     × (u < vertices (A.plain graph.now)) }
                 ensures { result ≡ source_gives program.entry.now
-                    (A.plain graph.entry.now) vals.entry.now u }
-            { source_gives(program, graph, vals, u) },
+                    (A.plain graph.entry.now) (V.values row.entry.now) u }
+            { source_gives(program, graph, row, u) },
         )
         .collect(rt, alloc)?;
     Ok(given)

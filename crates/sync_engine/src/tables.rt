@@ -3,18 +3,18 @@ ghost use Rattle.std.specs.Prelude.{◌≡◌, IfOk};
 ghost use Rattle.bolt_base.specs.Graph.{IsGood};
 ghost use Rattle.range_check.specs.Breaks.{IsAccepted};
 ghost use Rattle.run_model.specs.Rows.{applied, at, begun, each_vertex, gathered};
-ghost use Rattle.run_model.specs.Given.{IsBefore, source_gives};
-ghost use Rattle.sync_engine.specs.Given.{AreGiven};
+ghost use Rattle.run_model.specs.Given.{AreGiven, IsBefore, IsWeightless, source_gives};
+ghost use Rattle.sync_engine.specs.Given.{AreShared};
 
 use crate::alone::{first_values_alone, next_values_alone, sources_give_alone};
-use crate::contributions::Contributions;
 use crate::shared::{first_values_shared, next_values_shared, sources_give_shared};
 use adjacency::Adjacency;
 use bolt_base::{Lanes, Memory};
-use run_model::is_weightless;
+use run_model::{Contributions, is_weightless};
 use std::alloc::Global;
 use std::thread::Threads;
 use vertex_expr::Program;
+use vertex_steps::LaneRow;
 
 /// The first values.
 pub fn first_values<R: Threads + Sync, A: Adjacency + Sync>(
@@ -73,13 +73,14 @@ fn sources_give<R: Threads + Sync, A: Adjacency + Sync>(
         given.items ≡ each_vertex (A.plain graph.now)
         (source_gives program.now (A.plain graph.now) vals.now)) }
 {
+    let row = LaneRow { lanes: vals };
     if workers == 1 {
-        return sources_give_alone(alloc, program, graph, vals);
+        return sources_give_alone(alloc, program, graph, &row);
     }
-    sources_give_shared(rt, alloc, program, graph, vals)
+    sources_give_shared(rt, alloc, program, graph, &row)
 }
 
-/// What the edges give after a row of values.
+/// What the edges give after a row of values, once for each source where weights don't matter.
 pub fn contributions<R: Threads + Sync, A: Adjacency + Sync>(
     rt: &R,
     alloc: Global,
@@ -89,7 +90,9 @@ pub fn contributions<R: Threads + Sync, A: Adjacency + Sync>(
     workers: u32,
 ) -> Result<Contributions, Memory>
     requires before { IsBefore program.now (A.plain graph.now) vals.now }
-    ensures { IfOk result (λ given. AreGiven program.now (A.plain graph.now) vals.now given) }
+    ensures given { IfOk result (λ given.
+        AreGiven program.now (A.plain graph.now) vals.now given) }
+    ensures shared { IfOk result (λ given. IsWeightless program.now → AreShared given) }
 {
     if is_weightless(program) {
         let given = sources_give(rt, alloc, program, graph, vals, workers)?;

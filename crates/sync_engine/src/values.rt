@@ -1,38 +1,17 @@
-// The values of a vertex.
+// The next value of a vertex, from those of all.
 ghost use Rattle.std.specs.Prelude.{◌≡◌, ◌<◌};
-ghost use Rattle.bolt_base.specs.Graph.{IsGood, vertices};
-ghost use Rattle.range_check.specs.Breaks.{IsAccepted};
-ghost use Rattle.run_model.specs.Rows.{at, applied, begun, each_vertex, gathered};
+ghost use Rattle.bolt_base.specs.Graph.{vertices};
+ghost use Rattle.run_model.specs.Rows.{applied, at, each_vertex, gathered};
 ghost use Rattle.run_model.specs.Given.{IsBefore};
 
 use adjacency::Adjacency;
 use bolt_base::Lanes;
-use run_model::evaluated;
-use vertex_expr::{Env, Program};
+use vertex_expr::Program;
+use vertex_steps::next_value;
 
-/// The first value of a vertex.
-pub fn first_value<A: Adjacency>(program: &Program, graph: &A, v: u32) -> Lanes
-    requires safe { IsAccepted program.now }
-    requires good { IsGood program.now.limits (A.plain graph.now) }
-    requires vertex { v < vertices (A.plain graph.now) }
-    ensures value { result ≡ begun program.now (A.plain graph.now) v }
-{
-    let entries = program.entries();
-    let zeros = Lanes::zeros(entries.ranges.len() as u32);
-    let env = Env {
-        val: zeros,
-        agg: zeros,
-        old: zeros,
-        outdeg: 0,
-        weight: 0,
-        attr: graph.attr(v),
-        id: v,
-    };
-    evaluated(program, &entries.init, &env)
-}
-
-/// The next value of a vertex, from its aggregate and its value before.
-pub fn next_value<A: Adjacency>(
+/// The next value of a vertex, after the aggregates and the values before of all vertices.
+#[inline]
+pub fn next_value_of<A: Adjacency>(
     program: &Program,
     graph: &A,
     aggs: &[Lanes],
@@ -47,16 +26,7 @@ pub fn next_value<A: Adjacency>(
         ≡ applied program.now (A.plain graph.now)
         (gathered program.now (A.plain graph.now) vals.now v) (at vals.now v) v }
 {
-    let entries = program.entries();
-    let zeros = Lanes::zeros(entries.ranges.len() as u32);
-    let env = Env {
-        val: zeros,
-        agg: aggs[v as usize],
-        old: vals[v as usize],
-        outdeg: 0,
-        weight: 0,
-        attr: graph.attr(v),
-        id: v,
-    };
-    evaluated(program, &entries.apply, &env)
+    let agg = aggs[v as usize];
+    let before = vals[v as usize];
+    next_value(program, graph, &agg, &before, v)
 }

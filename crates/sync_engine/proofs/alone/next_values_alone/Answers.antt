@@ -9,5 +9,5 @@ loop-v-preserved g c =
     let p : ProgramEntries = c.args.program.now in
     let h : Graph = g.A.Adjacency.plain c.args.graph.now in
     table_more (λ v. applied p h (gathered p h c.args.vals.now v) (at c.args.vals.now v) v)
-    c.loop-v.v c.loop-v.next.items c.push.new.self.items c.next_value.result
-    c.in_ok-push.ensures.items c.loop-v.invariant c.next_value.ensures.value
+    c.loop-v.v c.loop-v.next.items c.push.new.self.items c.next_value_of.result
+    c.in_ok-push.ensures.items c.loop-v.invariant c.next_value_of.ensures.value

@@ -3,7 +3,8 @@ use Rattle.bolt_base.specs.Graph.{Graph, edges}
 use Rattle.bolt_base.specs.RowTable.{RowTable}
 use Rattle.vertex_expr.specs.declared.program.ProgramEntries.{ProgramEntries}
 use Rattle.run_model.specs.Rows.{row, aggr}
-use Rattle.run_model.proofs.Runs.{vals_long, vals_lanes, next_row, next_aggr, aggs_long, aggs_lanes, table_next, length-rows_to}
+use Rattle.run_model.proofs.Runs.{vals_long, vals_lanes, next_row, next_aggr, aggs_long, aggs_lanes}
+use Rattle.run_model.proofs.Runs.{table_next, length-rows_to}
 use Rattle.sync_engine.proofs.Counts.{more_rounds}
 use Rattle.sync_engine.proofs.Rounds.{before_at}
 use Rattle.sync_engine.proofs.run.kept_rows.Goals as goal

@@ -15,7 +15,8 @@ collect-requires-clause-ready g c κs within =
     let n : ℕ = c.vertices.result in
     let all : n ≡ vertices h = c.vertices.ensures in
     let ends = c.into_par_iter.ensures in
-    let inside = nat_range-All (λ v. IsBefore p h c.args.vals.now × (v < vertices h)) 0 n
+    let inside = nat_range-All (λ v. IsBefore p h (g.V.ValueRow.values c.args.row.now)
+    × (v < vertices h)) 0 n
     (λ v low high. (c.requires.before, omega (arith, all))) in
     rw (c.map.ensures.base, c.map.ensures.f, ends.0, ends.1) (λ k d lt. (inside k d lt, λ y q. tt))
 
@@ -26,7 +27,7 @@ returns g c =
     let n : ℕ = c.vertices.result in
     let whole : n - 0 ≡ vertices h = omega (arith, c.vertices.ensures) in
     let ends = c.into_par_iter.ensures in
-    let f : ℕ → List ℤ = source_gives p h c.args.vals.now in
+    let f : ℕ → List ℤ = source_gives p h (g.V.ValueRow.values c.args.row.now) in
     let ok = c.in_ok-given.ensures in
     let chain = rw (c.map.ensures.base, c.map.ensures.f) at ok.1 in
     let places = chain.1 ∙ (λ i. nat_range (ends.0 i) (ends.1 i)) ∙ ap (range_with_len 0) whole in

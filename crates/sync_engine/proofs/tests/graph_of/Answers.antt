@@ -17,5 +17,9 @@ new-requires-3 c =
 pub returns : goal.returns
 returns c =
     let same = c.keep.ensures.limits ∙ c.in_ok-change.ensures.limits ∙ c.in_ok-graph.ensures.limits
-    ∙ ap (λ (p : ProgramEntries). p.limits) (c.entries.ensures.entries ∙ c.program.ensures.program) in
-    record { good = subst (λ (l : Limits). IsGood l c.keep.new.self.now) same c.limits-limits.ensures.good }
+    ∙ ap (λ (p : ProgramEntries). p.limits) (c.entries.ensures.entries ∙ c.program.ensures.program)
+    in
+    record {
+      good = subst (λ (l : Limits). IsGood l c.keep.new.self.now) same
+          c.limits-limits.ensures.good;
+    }

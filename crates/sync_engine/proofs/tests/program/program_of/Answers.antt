@@ -7,10 +7,12 @@ use Rattle.vertex_expr.specs.declared.program.Combine.{Combine}
 use Rattle.sync_engine.proofs.tests.program.program_of.Goals as goal
 
 -- a list of one item
-one_item : {X : Type 0} (new old : List X) (x y : X) → new ≡ old ++ x ∷ [] → old ≡ [] → x ≡ y → new ≡ y ∷ []
+one_item : {X : Type 0} (new old : List X) (x y : X) → new ≡ old ++ x ∷ [] → old ≡ [] → x ≡ y → new
+    ≡ y ∷ []
 one_item new old x y e f g = e ∙ (λ i. f i ++ g i ∷ [])
 
-combined_writable : (combine : Combine) → IsCombination combine → IsWritable (record rank { combine = combine })
+combined_writable : (combine : Combine) → IsCombination combine
+    → IsWritable (record rank { combine = combine })
 combined_writable combine fits = record {
   name = rank_writable.name;
   limits = rank_writable.limits;
@@ -28,8 +30,21 @@ combined_writable combine fits = record {
 
 pub new-requires-2 : goal.new-requires-2
 new-requires-2 c =
-    let ranges = one_item _ _ _ _ c.in_ok-push.ensures.ok c.new-ranges.ensures (λ i. record { lo = pos 0; hi = pos 1000000000000 }) in
-    let init = one_item _ _ _ _ c.in_ok-push-2.ensures.ok c.new-init.ensures.empty (λ i. literal (pos 1000000)) in
-    let contribute = one_item _ _ _ _ c.in_ok-push-3.ensures.ok c.new-contribute.ensures.empty c.in_ok-share_of.ensures.tree in
-    let apply = one_item _ _ _ _ c.in_ok-push-4.ensures.ok c.new-apply.ensures.empty c.in_ok-damped_of.ensures.tree in
-    record { writable = rw (c.in_ok-rank_name.ensures.name, ranges, init, contribute, apply, c.new.ensures) (combined_writable c.args.combine c.requires.combination) }
+    let ranges = one_item _ _ _ _ c.in_ok-push.ensures.ok c.new-ranges.ensures
+    (λ i. record { lo = pos 0; hi = pos 1000000000000 }) in
+    let init = one_item _ _ _ _ c.in_ok-push-2.ensures.ok c.new-init.ensures.empty
+    (λ i. literal (pos 1000000)) in
+    let contribute = one_item _ _ _ _ c.in_ok-push-3.ensures.ok c.new-contribute.ensures.empty
+    c.in_ok-share_of.ensures.tree in
+    let apply = one_item _ _ _ _ c.in_ok-push-4.ensures.ok c.new-apply.ensures.empty
+    c.in_ok-damped_of.ensures.tree in
+    record {
+      writable = rw (
+        c.in_ok-rank_name.ensures.name,
+        ranges,
+        init,
+        contribute,
+        apply,
+        c.new.ensures,
+      ) (combined_writable c.args.combine c.requires.combination);
+    }

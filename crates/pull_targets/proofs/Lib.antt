@@ -1,0 +1,4 @@
+pub mod RisingLists
+pub mod EndLemmas
+pub mod TargetLemmas
+pub mod PartLemmas
