@@ -1,53 +1,36 @@
 -- What the fields of entries that are right are like.
 use Rattle.std.proofs.Common.{◌≡◌, w64, ℕ, ℤ, pos, negsuc, ◌+◌, ◌<◌, ◌≤◌, ◌≤ℤ◌, Bool, true, false}
-use Rattle.std.proofs.Common.{cond, List, [], ◌∷◌, ◌++◌, length, get_or, take, Option, Some, None}
-use Rattle.std.proofs.Common.{Result, Ok, Err, refl, sym, ◌∙◌, ap, subst, arith, length-append}
+use Rattle.std.proofs.Common.{cond, List, [], ◌∷◌, ◌++◌, length, take, Option, Some, None}
+use Rattle.std.proofs.Common.{Result, Ok, Err, refl, sym, ◌∙◌, ap, arith, length-append}
 use Rattle.std.proofs.Common.{zero, suc}
-use Rattle.std.specs.Prelude.{codes, nat_lt, nat_le, int_lt, All, FitsSigned, map}
+use Rattle.std.specs.Prelude.{codes, nat_lt, nat_le, int_lt, All, FitsSigned}
 use Rattle.std.specs.Int.{int_max}
 use Rattle.std.specs.Str.{bytes_eq}
 use Rattle.std.proofs.lemmas.Bool.Decides.{nat_tests}
 use Rattle.std.proofs.lemmas.Int.{ints}
-use Rattle.std.proofs.lemmas.List.{get_or_append_left, take-append-le, map-append}
+use Rattle.std.proofs.lemmas.List.{get_or_append_left, take-append-le}
 use Rattle.std.proofs.lemmas.List.Elements.{All-append}
 use Rattle.std.proofs.Math.Seq.{get_or-append_seam, take-append_seam}
 use Rattle.vertex_expr.specs.Tree.{Tree}
 use Rattle.vertex_expr.specs.Names.{is_name, is_taken, param_name, AreNames}
-use Rattle.vertex_expr.specs.Writable.{IsWithin, IsRange, IsCombination, IsTextTree, Scope}
-use Rattle.vertex_expr.specs.Writable.{scope_in, names_of, values_of}
+use Rattle.vertex_expr.specs.Writable.{IsRange, IsCombination, IsTextTree}
+use Rattle.vertex_expr.specs.Writable.{scope_in}
 use Rattle.vertex_expr.specs.declared.expr.Part.{Part}
-use Rattle.vertex_expr.specs.declared.expr.Part.TheVariants.{Init as InitPart}
-use Rattle.vertex_expr.specs.declared.expr.Part.TheVariants.{Contribute as ContributePart}
-use Rattle.vertex_expr.specs.declared.expr.Part.TheVariants.{Apply as ApplyPart}
-use Rattle.vertex_expr.specs.declared.program.Combine.{Combine}
-use Rattle.vertex_expr.specs.declared.program.Combine.TheVariants.{Sum, Min, Max}
+use Rattle.vertex_expr.specs.declared.program.Combine.TheVariants.{Min, Max}
 use Rattle.vertex_expr.specs.declared.program.LaneRange.{LaneRange}
-use Rattle.vertex_expr.specs.declared.program.NamedParam.{NamedParam}
 use Rattle.vertex_expr.specs.declared.program.ProgramEntries.{ProgramEntries}
 use Rattle.lexical.specs.Words.{Word}
-use Rattle.text_words.specs.Fields.{◌>>=◌, word_at, word_end, unsigned_of, number_at, signed_at}
-use Rattle.text_words.specs.Fields.{name_at}
+use Rattle.text_words.specs.Fields.{◌>>=◌, word_at, word_end, unsigned_of, signed_at}
 use Rattle.text_words.specs.declared.error.LangError.{LangError}
-use Rattle.text_words.specs.declared.error.LangError.TheVariants.{Syntax, Repeat, Missing, TooBig}
+use Rattle.text_words.specs.declared.error.LangError.TheVariants.{Repeat, Missing, TooBig}
 use Rattle.text_words.specs.declared.error.Keyword.{Keyword}
-use Rattle.text_words.specs.declared.error.Keyword.TheVariants.{Program, Vertices, Degree, Edges}
-use Rattle.text_words.specs.declared.error.Keyword.TheVariants.{Weight, Attr, Rounds}
-use Rattle.text_words.specs.declared.error.Keyword.TheVariants.{Combine as CombineWord, Param, Lane}
-use Rattle.text_words.specs.declared.error.Keyword.TheVariants.{Init, Contribute, Apply}
-use Rattle.text_words.proofs.FieldFacts.{On, on_then, on_any, on_test, on_of, number_on, signed_on}
-use Rattle.text_words.proofs.FieldFacts.{name_on}
+use Rattle.text_words.proofs.FieldFacts.{On, on_then, on_any, on_test, on_of, signed_on}
 use Rattle.expr_text.specs.Expressions.{expression_at}
 use Rattle.expr_text.proofs.Printables.{expression_fits}
-use Rattle.vertex_lang.specs.declared.draft.Draft.{Draft}
 use Rattle.vertex_lang.specs.Keywords.{order}
 use Rattle.vertex_lang.specs.Entries.{least_i64, greatest_i64, range_at, combine_at, combine_of}
-use Rattle.vertex_lang.specs.Entries.{param, param_at, index_of, index_at, lane_at, below_lanes}
-use Rattle.vertex_lang.specs.Entries.{place_at, tree_at, entry_at}
-use Rattle.vertex_lang.specs.Drafts.{is_full}
-use Rattle.vertex_lang.proofs.Printed.{length-names}
-use Rattle.vertex_lang.proofs.EntryReads.{least_fits, greatest_fits}
-use Rattle.vertex_lang.proofs.GoodDrafts.{IsAttrRange, IsBegun, HasParams, HasLanes, HasTrees}
-use Rattle.vertex_lang.proofs.GoodDrafts.{IsGood, IsAdmitted}
+use Rattle.vertex_lang.specs.Entries.{index_of, below_lanes}
+use Rattle.vertex_lang.specs.Entries.{place_at, tree_at}
 
 pub fits_between : (z : ℤ) → least_i64 ≤ℤ z → z ≤ℤ greatest_i64 → FitsSigned w64 z
 fits_between (pos n) h i = omega (arith, ints)

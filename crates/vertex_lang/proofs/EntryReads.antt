@@ -1,11 +1,10 @@
 -- The entries of printed lines that stand once are read again.
-use Rattle.std.proofs.Common.{◌≡◌, w64, ℕ, ℤ, pos, negsuc, ◌+◌, ◌^◌, ◌<◌, ◌≤◌, ◌≤ℤ◌, Bool, true}
-use Rattle.std.proofs.Common.{false, cond, List, [], ◌∷◌, ◌++◌, length, drop, Option, Some, None}
-use Rattle.std.proofs.Common.{Result, Ok, Err, refl, sym, ◌∙◌, ap, arith, length-append, rules}
+use Rattle.std.proofs.Common.{◌≡◌, w64, ℕ, ℤ, pos, negsuc, ◌+◌, ◌≤◌, ◌≤ℤ◌, Bool, true}
+use Rattle.std.proofs.Common.{false, cond, List, [], ◌∷◌, ◌++◌, length, drop, Some}
+use Rattle.std.proofs.Common.{Result, Ok, refl, sym, ◌∙◌, ap, arith, length-append}
 use Rattle.std.specs.Prelude.{codes, decimal, int_lt, FitsSigned}
 use Rattle.std.specs.Int.{int_max}
 use Rattle.std.specs.Fmt.{signed_decimal}
-use Rattle.std.specs.Str.{bytes_eq}
 use Rattle.std.proofs.lemmas.Int.{ints}
 use Rattle.std.proofs.lemmas.List.{append-nil, drop-drop, drop_at}
 use Rattle.vertex_expr.specs.Names.{is_name}
@@ -25,7 +24,6 @@ use Rattle.text_words.proofs.Lexing.{Passes}
 use Rattle.text_words.proofs.PrintedLines.{is_printed}
 use Rattle.text_words.proofs.FieldLemmas.{IsField, IsEnd, words_in_front, ascii_field, next_word}
 use Rattle.text_words.proofs.FieldLemmas.{behind_word, at_end, next_number, next_signed, next_name}
-use Rattle.text_words.proofs.FieldLemmas.{signed_field}
 use Rattle.vertex_lang.specs.declared.draft.Draft.{Draft}
 use Rattle.vertex_lang.specs.Keywords.{order, keyword_of}
 use Rattle.vertex_lang.specs.Entries.{least_i64, greatest_i64, range_at, combine_at, combine_of}

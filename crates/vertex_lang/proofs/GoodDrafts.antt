@@ -1,11 +1,9 @@
 -- What every draft of a text is like.
 use Rattle.std.proofs.Common.{◌≡◌, w64, ℕ, ℤ, pos, ◌+◌, ◌<◌, ◌≤◌, ◌≤ℤ◌, Bool, true, false, cond}
-use Rattle.std.proofs.Common.{List, [], ◌∷◌, length, Option, Some, None, Result, Ok, Err, refl, sym}
-use Rattle.std.proofs.Common.{◌∙◌, ap, subst, arith}
-use Rattle.std.specs.Prelude.{◌==◌, nat_lt, nat_le, All, FitsSigned}
+use Rattle.std.proofs.Common.{[], length, Option, Some, None, Result, Ok, Err, refl, sym}
+use Rattle.std.proofs.Common.{subst, arith}
+use Rattle.std.specs.Prelude.{◌==◌, nat_lt, All, FitsSigned}
 use Rattle.std.proofs.lemmas.Bool.Decides.{nat_tests}
-use Rattle.bolt_base.specs.declared.limits.Limits.{Limits}
-use Rattle.vertex_expr.specs.Tree.{Tree}
 use Rattle.vertex_expr.specs.Names.{is_name, AreNames}
 use Rattle.vertex_expr.specs.Writable.{IsWritable, IsWithin, IsRange, IsCombination, IsTextTree}
 use Rattle.vertex_expr.specs.Writable.{scope_in, names_of, values_of}
@@ -16,10 +14,10 @@ use Rattle.vertex_expr.specs.declared.program.ProgramEntries.{ProgramEntries}
 use Rattle.text_words.specs.declared.error.LangError.{LangError}
 use Rattle.text_words.specs.declared.error.LangError.TheVariants.{Repeat, Missing, TooBig}
 use Rattle.text_words.specs.declared.error.Keyword.{Keyword}
-use Rattle.text_words.specs.declared.error.Keyword.TheVariants.{Param, Lane, Init, Contribute}
+use Rattle.text_words.specs.declared.error.Keyword.TheVariants.{Lane, Init, Contribute}
 use Rattle.text_words.specs.declared.error.Keyword.TheVariants.{Apply}
 use Rattle.text_words.specs.Fields.{◌>>=◌}
-use Rattle.text_words.proofs.FieldFacts.{On, on_then, on_test}
+use Rattle.text_words.proofs.FieldFacts.{On, on_test}
 use Rattle.vertex_lang.specs.declared.draft.Draft.{Draft}
 use Rattle.vertex_lang.specs.Keywords.{order, once_at}
 use Rattle.vertex_lang.specs.Drafts.{first_due, due_before, is_past, is_full, admitted}

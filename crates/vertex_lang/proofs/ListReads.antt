@@ -1,11 +1,11 @@
 -- The params and the lanes of printed lines are read again.
-use Rattle.std.proofs.Common.{◌≡◌, w64, ℕ, ℤ, ◌+◌, ◌^◌, ◌<◌, ◌≤◌, Bool, true, false, cond, List, []}
-use Rattle.std.proofs.Common.{◌∷◌, ◌++◌, length, take, drop, Option, Some, None, Result, Ok, Err}
-use Rattle.std.proofs.Common.{refl, sym, ◌∙◌, ap, subst, arith, length-append, zero, suc}
-use Rattle.std.specs.Prelude.{codes, decimal, nat_lt, nat_le, map, All, FitsSigned, slice_index_or}
+use Rattle.std.proofs.Common.{◌≡◌, w64, ℕ, ℤ, ◌+◌, ◌^◌, ◌<◌, ◌≤◌, true, false, cond, List, []}
+use Rattle.std.proofs.Common.{◌∷◌, ◌++◌, length, take, drop, Some, Result, Ok, Err}
+use Rattle.std.proofs.Common.{refl, sym, ◌∙◌, ap, subst, arith, zero, suc}
+use Rattle.std.specs.Prelude.{codes, decimal, nat_lt, nat_le, All, FitsSigned}
 use Rattle.std.specs.Fmt.{signed_decimal}
 use Rattle.std.proofs.lemmas.Bool.Decides.{nat_tests}
-use Rattle.std.proofs.lemmas.List.{take_at, map-append, length-map}
+use Rattle.std.proofs.lemmas.List.{take_at, map-append}
 use Rattle.vertex_expr.specs.Names.{is_name, is_taken, param_name, AreNames}
 use Rattle.vertex_expr.specs.Writable.{IsRange, names_of, values_of}
 use Rattle.vertex_expr.specs.declared.program.LaneRange.{LaneRange}
@@ -17,16 +17,16 @@ use Rattle.text_words.specs.declared.error.LangError.{LangError}
 use Rattle.text_words.specs.declared.error.LangError.TheVariants.{Repeat, Missing}
 use Rattle.text_words.specs.declared.error.Keyword.{Keyword}
 use Rattle.text_words.specs.declared.error.Keyword.TheVariants.{Param, Lane}
-use Rattle.text_words.proofs.Lexing.{Passes, passes-append}
+use Rattle.text_words.proofs.Lexing.{passes-append}
 use Rattle.text_words.proofs.PrintedLines.{is_printed, decimal_printed, signed_printed}
 use Rattle.text_words.proofs.PrintedLines.{name_printed}
 use Rattle.text_words.proofs.FieldLemmas.{IsField, next_word, behind_word, next_signed, next_name}
 use Rattle.text_words.proofs.FieldLemmas.{unsigned_decimal, decimal_field}
 use Rattle.vertex_lang.specs.declared.draft.Draft.{Draft}
-use Rattle.vertex_lang.specs.Keywords.{order, keyword_of}
+use Rattle.vertex_lang.specs.Keywords.{keyword_of}
 use Rattle.vertex_lang.specs.Entries.{least_i64, greatest_i64, range_at, param, param_at, index_of}
 use Rattle.vertex_lang.specs.Entries.{index_at, lane_at, entry_at}
-use Rattle.vertex_lang.specs.Drafts.{is_full, admitted}
+use Rattle.vertex_lang.specs.Drafts.{is_full}
 use Rattle.vertex_lang.specs.Canonical.{spaced, param_line, lane_line, param_lines, lane_lines}
 use Rattle.vertex_lang.proofs.LineReads.{Reads, Steps}
 use Rattle.vertex_lang.proofs.Admission.{admitted_by, not_past, due_lane, due_init, due_is}

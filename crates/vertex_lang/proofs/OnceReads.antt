@@ -1,13 +1,12 @@
 -- The entries that stand once, a line each, are read again.
-use Rattle.std.proofs.Common.{◌≡◌, w64, ℕ, ℤ, pos, ◌+◌, ◌^◌, ◌<◌, ◌≤◌, List, [], ◌∷◌, ◌++◌, length}
-use Rattle.std.proofs.Common.{drop, Option, Some, None, Result, Ok, Err, refl, arith}
+use Rattle.std.proofs.Common.{◌≡◌, ℕ, ℤ, ◌+◌, ◌^◌, ◌<◌, List, [], ◌++◌}
+use Rattle.std.proofs.Common.{Some, Ok, refl, arith}
 use Rattle.std.specs.Prelude.{codes, decimal}
 use Rattle.std.specs.Fmt.{signed_decimal}
-use Rattle.vertex_expr.specs.Writable.{IsWritable, IsRange, IsWithin, IsCombination}
+use Rattle.vertex_expr.specs.Writable.{IsWritable, IsRange, IsCombination}
 use Rattle.vertex_expr.specs.declared.program.Combine.{Combine}
 use Rattle.vertex_expr.specs.declared.program.Combine.TheVariants.{Sum, Min, Max}
 use Rattle.vertex_expr.specs.declared.program.ProgramEntries.{ProgramEntries}
-use Rattle.text_words.specs.declared.error.LangError.{LangError}
 use Rattle.text_words.specs.declared.error.Keyword.{Keyword}
 use Rattle.text_words.specs.declared.error.Keyword.TheVariants.{Program, Vertices, Degree, Edges}
 use Rattle.text_words.specs.declared.error.Keyword.TheVariants.{Weight, Attr, Rounds}
@@ -19,12 +18,11 @@ use Rattle.text_words.proofs.PrintedLines.{name_printed}
 use Rattle.text_words.proofs.FieldLemmas.{IsField, IsEnd}
 use Rattle.vertex_lang.specs.declared.draft.Draft.{Draft}
 use Rattle.vertex_lang.specs.Keywords.{order, keyword_of, once_at}
-use Rattle.vertex_lang.specs.Entries.{entry_at}
 use Rattle.vertex_lang.specs.Drafts.{admitted, is_past, first_due, is_full, blank}
-use Rattle.vertex_lang.specs.Canonical.{spaced, once_lines, name_line, number_line, range_line}
-use Rattle.vertex_lang.specs.Canonical.{combine_line, weight_line, attr_line}
+use Rattle.vertex_lang.specs.Canonical.{spaced, once_lines, number_line, range_line}
+use Rattle.vertex_lang.specs.Canonical.{combine_line}
 use Rattle.vertex_lang.proofs.LineReads.{Reads, Steps}
-use Rattle.vertex_lang.proofs.EntryReads.{Done, reads_entry, name_done, vertices_done, degree_done}
+use Rattle.vertex_lang.proofs.EntryReads.{reads_entry, name_done, vertices_done, degree_done}
 use Rattle.vertex_lang.proofs.EntryReads.{edges_done, rounds_done, weight_done, attr_done}
 use Rattle.vertex_lang.proofs.EntryReads.{combine_done, combination}
 use Rattle.vertex_lang.proofs.ListReads.{draft_of}

@@ -1,8 +1,8 @@
 -- Trees that a text can have name only params that are there.
-use Rattle.std.proofs.Common.{◌≡◌, ℕ, ◌<◌, pos, negsuc, List, [], ◌∷◌, ◌++◌, length, get_or, refl}
-use Rattle.std.proofs.Common.{sym, ◌∙◌, ap, subst, append_assoc, arith}
+use Rattle.std.proofs.Common.{◌≡◌, ℕ, pos, negsuc, List, [], ◌∷◌, length, get_or, refl}
+use Rattle.std.proofs.Common.{sym, subst, arith}
 use Rattle.std.specs.Prelude.{map, All}
-use Rattle.std.proofs.lemmas.List.{get_or-map, append-nil}
+use Rattle.std.proofs.lemmas.List.{get_or-map}
 use Rattle.vertex_expr.specs.Node.{tree_of}
 use Rattle.vertex_expr.specs.Tree.{Tree, literal, param, val, outdeg, weight, attr, id, agg, old}
 use Rattle.vertex_expr.specs.Tree.{plus, minus, times, over, least, greatest, clamp, choose}
@@ -10,7 +10,6 @@ use Rattle.vertex_expr.specs.Writable.{Scope, IsPrintable, IsTextTree, AreExprs,
 use Rattle.vertex_expr.specs.declared.expr.Expr.{Expr}
 use Rattle.vertex_expr.specs.declared.program.NamedParam.{NamedParam}
 use Rattle.expr_text.specs.PrintingCode.{AreBelow}
-use Rattle.vertex_lang.specs.Canonical.{ended_lines}
 
 params_below : (s : Scope) (t : Tree) → IsPrintable s t → AreBelow (length s.params) t
 params_below s (literal (pos n)) h = tt

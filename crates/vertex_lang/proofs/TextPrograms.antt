@@ -1,6 +1,6 @@
 -- What a text says is a program that a text can have.
-use Rattle.std.proofs.Common.{◌≡◌, ℕ, ◌+◌, ◌≤◌, List, [], ◌∷◌, length, take, drop, Option, Some}
-use Rattle.std.proofs.Common.{None, Result, Ok, Err, refl, subst, arith}
+use Rattle.std.proofs.Common.{◌≡◌, ℕ, ◌+◌, List, [], ◌∷◌, take, drop, Option, Some}
+use Rattle.std.proofs.Common.{None, Result, Ok, refl, subst, arith}
 use Rattle.vertex_expr.specs.Writable.{IsWritable}
 use Rattle.vertex_expr.specs.declared.program.ProgramEntries.{ProgramEntries}
 use Rattle.lexical.specs.Words.{Word, words_from}

@@ -1,7 +1,7 @@
 -- The canonical text of a program is read as that program.
-use Rattle.std.proofs.Common.{◌≡◌, ℕ, ◌+◌, ◌<◌, ◌≤◌, Bool, true, false, cond, List, [], ◌∷◌, ◌++◌}
-use Rattle.std.proofs.Common.{length, Option, Some, None, Result, Ok, Err, refl, sym, ◌∙◌, ap}
-use Rattle.std.proofs.Common.{subst, arith}
+use Rattle.std.proofs.Common.{◌≡◌, ℕ, ◌+◌, ◌≤◌, false, cond, List, [], ◌∷◌, ◌++◌}
+use Rattle.std.proofs.Common.{length, None, Result, Ok, Err, sym, ◌∙◌, ap}
+use Rattle.std.proofs.Common.{arith}
 use Rattle.std.specs.Prelude.{codes, nat_lt}
 use Rattle.std.proofs.lemmas.Bool.Decides.{nat_tests}
 use Rattle.vertex_expr.specs.Writable.{IsWritable, names_of}
@@ -10,7 +10,6 @@ use Rattle.lexical.specs.Lines.{lines_from}
 use Rattle.text_words.specs.Fields.{◌>>=◌}
 use Rattle.text_words.specs.declared.error.LangError.{LangError}
 use Rattle.text_words.specs.declared.error.LangError.TheVariants.{TooBig}
-use Rattle.text_words.specs.declared.error.Keyword.{Keyword}
 use Rattle.vertex_lang.specs.declared.draft.Draft.{Draft}
 use Rattle.vertex_lang.specs.Drafts.{blank, lines_read, complete, first_due}
 use Rattle.vertex_lang.specs.Canonical.{ended_lines, once_lines, param_lines, lane_lines}

@@ -1,6 +1,6 @@
 -- The canonical text of a program: its entries in their order, a line each, one space between
 -- words.
-use Rattle.std.specs.Prelude.{ℕ, ℤ, ◌+◌, List, [], ◌∷◌, ◌++◌, length, codes, decimal}
+use Rattle.std.specs.Prelude.{ℕ, ℤ, ◌+◌, List, [], ◌∷◌, ◌++◌, codes, decimal}
 use Rattle.std.specs.Fmt.{signed_decimal}
 use Rattle.bolt_base.specs.declared.limits.Limits.{Limits}
 use Rattle.vertex_expr.specs.Tree.{Tree}

@@ -1,5 +1,4 @@
-use Rattle.std.proofs.Common.{◌≡◌, ◌≤◌, ℕ, List, length, Ok, ◌∙◌, ap, sym, subst}
-use Rattle.vertex_expr.specs.declared.program.ProgramEntries.{ProgramEntries}
+use Rattle.std.proofs.Common.{◌≡◌, ◌≤◌, ℕ, List, length, ◌∙◌, ap, subst}
 use Rattle.vertex_lang.specs.Canonical.{canonical_text}
 use Rattle.vertex_lang.specs.ProgramOf.{program_of}
 use Rattle.vertex_lang.proofs.WholeRoundTrip.{program_back}

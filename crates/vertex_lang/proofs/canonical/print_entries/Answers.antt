@@ -1,4 +1,4 @@
-use Rattle.std.proofs.Common.{◌≡◌, List, length, ◌∙◌, ap, sym}
+use Rattle.std.proofs.Common.{List, length, ◌∙◌, ap, sym}
 use Rattle.vertex_expr.specs.Writable.{scope_in}
 use Rattle.vertex_expr.specs.declared.expr.Part.TheVariants.{Init, Contribute, Apply}
 use Rattle.vertex_expr.specs.declared.program.NamedParam.{NamedParam}

@@ -1,4 +1,4 @@
-use Rattle.std.proofs.Common.{◌≡◌, ap, codes, rules, FitsSigned, w64, to_z-of_z}
+use Rattle.std.proofs.Common.{rules, FitsSigned, w64, to_z-of_z}
 use Rattle.vertex_lang.proofs.lines.append_combine.Goals as goal
 
 pub returns-in-Max : goal.returns-in-Max
