@@ -1,7 +1,7 @@
 -- A journal that replays still does after a decision.
-use Rattle.std.proofs.Common.{◌≡◌, ◌≢◌, ℕ, zero, suc, ◌+◌, ◌<◌, ◌≤◌, ◌⊎◌, List, [], ◌∷◌, ◌++◌}
-use Rattle.std.proofs.Common.{length, take, set, lt_of_not-le, sym, refl, ap, ◌∙◌, subst}
-use Rattle.std.proofs.Common.{⊎_elim, inl, inr, arith, Some, None}
+use Rattle.std.proofs.Common.{◌≡◌, ◌≢◌, ℕ, zero, suc, ◌⊎◌, List, [], ◌∷◌, ◌++◌}
+use Rattle.std.proofs.Common.{take, set, lt_of_not-le, sym, refl, ap, ◌∙◌, subst}
+use Rattle.std.proofs.Common.{⊎_elim, inl, inr, arith, Some}
 use Rattle.std.specs.Prelude.{slice_get}
 use mathlib.Core.Logic.{dite}
 use native.Mathlib.Decide.{dec_le}
@@ -14,9 +14,7 @@ use Rattle.graph_text.specs.declared.batch_text.BatchText.{BatchText}
 use Rattle.round_journal.specs.declared.entry.Entered.{Entered}
 use Rattle.round_journal.specs.declared.outcome.Outcome.{Outcome}
 use Rattle.round_journal.specs.declared.outcome.Outcome.TheVariants.{Memory}
-use Rattle.round_journal.specs.Book.{accepted_count}
 use Rattle.round_journal.specs.Replays.{Replays, outcome_after, accepted_edits, edits_if_accepted}
-use Rattle.round_journal.specs.Replays.{outcome_on}
 use Rattle.round_journal.proofs.Shapes.{IsOpenFrom, with_outcome, get_replaced, accepted_come_first}
 
 edits_come_first : (es : List Entered) (d : ℕ) → IsOpenFrom es d

@@ -1,14 +1,14 @@
 -- A journal keeps its shape.
-use Rattle.std.proofs.Common.{◌≡◌, ◌≢◌, ℕ, zero, suc, ◌+◌, ◌-◌, ◌<◌, ◌≤◌, ◌⊎◌, List, [], ◌∷◌, ◌++◌}
+use Rattle.std.proofs.Common.{◌≡◌, ◌≢◌, ℕ, zero, suc, ◌+◌, ◌<◌, ◌≤◌, ◌⊎◌, List, [], ◌∷◌, ◌++◌}
 use Rattle.std.proofs.Common.{length, take, set, get_or, lt_of_not-le, sym, refl, ap, ◌∙◌, subst}
 use Rattle.std.proofs.Common.{⊎_elim, inl, inr, arith, length-append, Some, None}
-use Rattle.std.specs.Prelude.{slice_get, is_some, Bool}
+use Rattle.std.specs.Prelude.{slice_get, is_some}
 use mathlib.Core.Logic.{dite}
 use native.Mathlib.Decide.{dec_le}
 use Rattle.std.proofs.lemmas.List.{take-append-le, take-set-le, length-set}
 use Rattle.round_journal.specs.declared.entry.Entered.{Entered}
 use Rattle.round_journal.specs.declared.outcome.Outcome.{Outcome}
-use Rattle.round_journal.specs.Book.{Book, IsShaped, accepted_count, one_if_accepted, IsRound}
+use Rattle.round_journal.specs.Book.{IsShaped, accepted_count, one_if_accepted, IsRound}
 
 -- the entry with this outcome
 abbrev pub with_outcome : Entered → Outcome → Entered
