@@ -2,7 +2,7 @@
 use Rattle.std.proofs.Common.{◌≡◌, ℕ, zero, suc, ◌+◌, ◌-◌, ◌<◌, ◌≤◌, Bool, true, false, not, ◌||◌}
 use Rattle.std.proofs.Common.{◌&&◌, List, length, get_or, map, filter, take, inl, inr, refl, sym}
 use Rattle.std.proofs.Common.{ap, ◌∙◌, subst, arith}
-use Rattle.std.specs.List.{range_with_len, list_any}
+use Rattle.std.specs.List.{range_with_len}
 use Rattle.std.proofs.lemmas.Bool.{cases_Bool, eq-eqb}
 use Rattle.std.proofs.lemmas.List.{get_or-map, length-map, map-id, take_all}
 use Rattle.std.proofs.lemmas.Simd.{map-map}
@@ -14,8 +14,8 @@ use Rattle.bolt_base.specs.declared.edge.AttrChange.{AttrChange}
 use Rattle.bolt_base.specs.declared.edge.Touched.{Touched}
 use Rattle.vertex_expr.specs.declared.program.ProgramEntries.{ProgramEntries}
 use Rattle.run_model.specs.Refined.{is_again}
-use Rattle.run_model.specs.Steps.{Step, dirty, is_applied, is_dirty, is_target, reads_attr}
-use Rattle.run_model.specs.Steps.{reads_outdeg, step, targets, value_changed}
+use Rattle.run_model.specs.Steps.{dirty, is_applied, is_dirty, is_target, reads_attr}
+use Rattle.run_model.specs.Steps.{reads_outdeg, step, value_changed}
 use Rattle.run_model.proofs.Known.{changed_applied, changed_begun}
 use Rattle.run_model.proofs.Still.{not_new}
 use Rattle.refine_rows.specs.Over.{AreOver}
@@ -32,7 +32,7 @@ pub attrs_are : (g h : Graph)
 attrs_are g h =
     let us : List ℕ = vertices_where (vertices g) (attr_changed g h) in
     let make : (ℕ → AttrChange) = λ v. record { vertex = v; old = attr_at g v; new = attr_at h v }
-        in
+    in
     map-map (λ (a : AttrChange). a.vertex) make us ∙ map-id us
 
 pub sources_are : (g h : Graph)
@@ -104,7 +104,7 @@ changed_again p g h good (suc i) v there t = changed_applied p g h good (suc i) 
 
 among_again : (p : ProgramEntries) (g h : Graph) → AreOver p g h → (i : ℕ) → 1 ≤ i
     → filter (old_only g (value_changed (step p g h i))) (again p g h (i - 1))
-        ≡ changed_values p g h i
+    ≡ changed_values p g h i
 among_again p g h over i some =
     let test : (ℕ → Bool) = old_only g (value_changed (step p g h i)) in
     filter_both (is_again p g h (i - 1)) test (range_with_len 0 (vertices h))
@@ -112,7 +112,7 @@ among_again p g h over i some =
     (λ v low high. both (is_again p g h (i - 1) v) (is_new g v) (value_changed (step p g h i) v)
     (λ t. changed_again p g h over.old (i - 1) v (omega arith)
     (subst (λ k. value_changed (step p g h k) v ≡ true) (let e : i ≡ i - 1 + 1 = omega arith in e)
-        t)))
+    t)))
     ∙ sym (where_old g (vertices h) over.more (value_changed (step p g h i)))
   where
     both : (a n c : Bool) → (c ≡ true → a ≡ true) → (a && (not n && c)) ≡ (not n && c)

@@ -1,6 +1,6 @@
 -- Whether some expression of a list mentions something.
 use Rattle.std.proofs.Common.{◌≡◌, ℕ, zero, suc, ◌<◌, Bool, true, false, ◌||◌, List, [], ◌∷◌}
-use Rattle.std.proofs.Common.{length, get_or, map, refl, sym, ap, ◌∙◌, arith}
+use Rattle.std.proofs.Common.{length, get_or, map, refl, ap, ◌∙◌, arith}
 use Rattle.std.specs.List.{list_any}
 
 pub any-map : {A B : Type 0} (p : B → Bool) (f : A → B) (xs : List A)

@@ -1,11 +1,10 @@
 -- Lists that rise, merged head by head.
-use Rattle.std.proofs.Common.{◌≡◌, ◌≢◌, ℕ, zero, suc, ◌+◌, ◌<◌, ◌≤◌, Bool, true, false, ◌||◌, ◌⊎◌}
-use Rattle.std.proofs.Common.{cond, eqb, ltb, List, [], ◌∷◌, ◌++◌, length, get_or, drop, filter}
+use Rattle.std.proofs.Common.{◌≡◌, ℕ, zero, suc, ◌+◌, ◌<◌, Bool, true, false, ◌||◌, ◌⊎◌}
+use Rattle.std.proofs.Common.{cond, eqb, ltb, List, [], ◌∷◌, ◌++◌, length, filter}
 use Rattle.std.proofs.Common.{inl, inr, refl, sym, ap, ◌∙◌, arith}
 use Rattle.std.specs.List.{range_with_len}
-use Rattle.std.proofs.Math.Seq.{drop-cons}
 use Rattle.std.proofs.lemmas.Bool.{eq-eqb, ne_eqb}
-use Rattle.std.proofs.lemmas.List.{append-nil, append_assoc}
+use Rattle.std.proofs.lemmas.List.{append-nil}
 use Rattle.std.proofs.lemmas.Bool.Decides.{nat_tests}
 use Rattle.refine_rows.specs.Picked.{vertices_where, AreMerged}
 
@@ -49,29 +48,29 @@ merged_nil (x ∷ xs) = refl
 -- what is picked past x is merged behind x
 behind_right : (x n m : ℕ) (q : ℕ → Bool) (xs : List ℕ) → x < m
     → merged (x ∷ xs) (filter q (range_with_len m n))
-        ≡ x ∷ merged xs (filter q (range_with_len m n))
+    ≡ x ∷ merged xs (filter q (range_with_len m n))
 behind_right x zero m q xs h = ap (λ zs. x ∷ zs) (sym (merged_nil xs))
 behind_right x (suc n) m q xs h = elim (q m) as
     (λ b. merged (x ∷ xs) (cond b (m ∷ filter q (range_with_len (m + 1) n))
-        (filter q (range_with_len (m + 1) n)))
+    (filter q (range_with_len (m + 1) n)))
     ≡ x ∷ merged xs (cond b (m ∷ filter q (range_with_len (m + 1) n))
-        (filter q (range_with_len (m + 1) n)))) [
-  | true ↦ merged_left x m xs (filter q (range_with_len (m + 1) n)) h
-  | false ↦ behind_right x n (m + 1) q xs (omega arith)
-]
+    (filter q (range_with_len (m + 1) n)))) [
+      | true ↦ merged_left x m xs (filter q (range_with_len (m + 1) n)) h
+      | false ↦ behind_right x n (m + 1) q xs (omega arith)
+    ]
 
 behind_left : (y n m : ℕ) (p : ℕ → Bool) (ys : List ℕ) → y < m
     → merged (filter p (range_with_len m n)) (y ∷ ys)
-        ≡ y ∷ merged (filter p (range_with_len m n)) ys
+    ≡ y ∷ merged (filter p (range_with_len m n)) ys
 behind_left y zero m p ys h = refl
 behind_left y (suc n) m p ys h = elim (p m) as
     (λ b. merged (cond b (m ∷ filter p (range_with_len (m + 1) n))
-        (filter p (range_with_len (m + 1) n))) (y ∷ ys)
+    (filter p (range_with_len (m + 1) n))) (y ∷ ys)
     ≡ y ∷ merged (cond b (m ∷ filter p (range_with_len (m + 1) n))
-        (filter p (range_with_len (m + 1) n))) ys) [
-  | true ↦ merged_right m y (filter p (range_with_len (m + 1) n)) ys h
-  | false ↦ behind_left y n (m + 1) p ys (omega arith)
-]
+    (filter p (range_with_len (m + 1) n))) ys) [
+      | true ↦ merged_right m y (filter p (range_with_len (m + 1) n)) ys h
+      | false ↦ behind_left y n (m + 1) p ys (omega arith)
+    ]
 
 merged_where : (n m : ℕ) (p q : ℕ → Bool)
     → merged (filter p (range_with_len m n)) (filter q (range_with_len m n))
@@ -83,7 +82,7 @@ merged_where (suc n) m p q =
     let zs : List ℕ = filter (λ v. p v || q v) (range_with_len (m + 1) n) in
     let rest : merged xs ys ≡ zs = merged_where n (m + 1) p q in
     elim (p m) as (λ a. merged (cond a (m ∷ xs) xs) (cond (q m) (m ∷ ys) ys)
-        ≡ cond (a || q m) (m ∷ zs) zs) [
+    ≡ cond (a || q m) (m ∷ zs) zs) [
       | true ↦ elim (q m) as (λ b. merged (m ∷ xs) (cond b (m ∷ ys) ys) ≡ m ∷ zs) [
         | true ↦ merged_both m m xs ys refl ∙ ap (λ ts. m ∷ ts) rest
         | false ↦ behind_right m n (m + 1) q xs (omega arith) ∙ ap (λ ts. m ∷ ts) rest

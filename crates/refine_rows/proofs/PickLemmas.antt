@@ -1,5 +1,5 @@
 -- Tests over a range of vertices.
-use Rattle.std.proofs.Common.{◌≡◌, ℕ, zero, suc, ◌+◌, ◌-◌, ◌<◌, ◌≤◌, Bool, true, false, not, ◌||◌}
+use Rattle.std.proofs.Common.{◌≡◌, ℕ, zero, suc, ◌+◌, ◌-◌, ◌<◌, ◌≤◌, Bool, true, false, not}
 use Rattle.std.proofs.Common.{◌&&◌, cond, eqb, ltb, List, [], ◌∷◌, ◌++◌, length, get_or, map}
 use Rattle.std.proofs.Common.{filter, take, inl, inr, refl, sym, ap, ◌∙◌, subst, arith}
 use Rattle.std.proofs.Common.{length-append}
@@ -51,7 +51,7 @@ range_split (suc a) m b =
     ap (range_with_len m) (let e : suc a + b ≡ suc (a + b) = omega arith in e)
     ∙ ap (λ vs. m ∷ vs) (range_split a (m + 1) b
     ∙ ap (λ k. range_with_len (m + 1) a ++ range_with_len k b)
-        (let e : m + 1 + a ≡ m + suc a = omega arith in e))
+    (let e : m + 1 + a ≡ m + suc a = omega arith in e))
 
 pub range_next : (a v : ℕ) → a ≤ v
     → range_with_len a (v + 1 - a) ≡ range_with_len a (v - a) ++ v ∷ []
@@ -70,17 +70,17 @@ where_split k n p low =
     ∙ ap (filter p) (range_split k 0 (n - k))
     ∙ filter-append p (range_with_len 0 k) (range_with_len (0 + k) (n - k))
     ∙ ap (λ m. vertices_where k p ++ filter p (range_with_len m (n - k)))
-        (let e : 0 + k ≡ k = omega arith in e)
+    (let e : 0 + k ≡ k = omega arith in e)
 
 module _ (g : Graph) (n : ℕ) (more : vertices g ≤ n) where
   pub where_old : (p : ℕ → Bool) → vertices_where (vertices g) p ≡ vertices_where n (old_only g p)
   where_old p = sym (where_split (vertices g) n (old_only g p) more
       ∙ ap (λ vs. vs ++ filter (old_only g p) (range_with_len (vertices g) (n - vertices g)))
       (agree_within (vertices g) 0 (old_only g p) p
-          (λ v l k. ap (λ b. not b && p v) (not_new (vertices g) v (omega arith))))
+      (λ v l k. ap (λ b. not b && p v) (not_new (vertices g) v (omega arith))))
       ∙ ap (λ vs. vertices_where (vertices g) p ++ vs)
       (none_within (n - vertices g) (vertices g) (old_only g p)
-          (λ v l k. ap (λ b. not b && p v) (is_le (vertices g) v l)))
+      (λ v l k. ap (λ b. not b && p v) (is_le (vertices g) v l)))
       ∙ append-nil (vertices_where (vertices g) p))
 
   pub where_new : range_with_len (vertices g) (n - vertices g) ≡ vertices_where n (is_new g)
@@ -95,9 +95,9 @@ pub filter_both : {X : Type 0} (p q : X → Bool) (xs : List X)
 filter_both p q [] = refl
 filter_both p q (x ∷ xs) = elim (p x) as (λ b. filter q (cond b (x ∷ filter p xs) (filter p xs))
     ≡ cond (b && q x) (x ∷ filter (λ y. p y && q y) xs) (filter (λ y. p y && q y) xs)) [
-  | true ↦ ap (λ ys. cond (q x) (x ∷ ys) ys) (filter_both p q xs)
-  | false ↦ filter_both p q xs
-]
+      | true ↦ ap (λ ys. cond (q x) (x ∷ ys) ys) (filter_both p q xs)
+      | false ↦ filter_both p q xs
+    ]
 
 -- ---- members
 contains_cons : (x v : ℕ) (xs : List ℕ) → Contains xs v → Contains (x ∷ xs) v
@@ -110,12 +110,12 @@ contains_within (suc n) m p v l k t = elim (cases_eq v m) [
   | inl e ↦
       let here : p m ≡ true = ap p (sym e) ∙ t in
       subst (λ b. Contains (cond b (m ∷ filter p (range_with_len (m + 1) n))
-          (filter p (range_with_len (m + 1) n))) v) (sym here)
+      (filter p (range_with_len (m + 1) n))) v) (sym here)
       (zero, omega arith, sym e)
   | inr d ↦
       let rest = contains_within n (m + 1) p v (omega arith) (omega arith) t in
       elim (p m) as (λ b. Contains (cond b (m ∷ filter p (range_with_len (m + 1) n))
-          (filter p (range_with_len (m + 1) n))) v) [
+      (filter p (range_with_len (m + 1) n))) v) [
         | true ↦ contains_cons m v (filter p (range_with_len (m + 1) n)) rest
         | false ↦ rest
       ]
@@ -143,7 +143,7 @@ picked_within (suc n) m p k l =
     let vs : List ℕ = filter p (range_with_len (m + 1) n) in
     let rest : ((j : ℕ) → j < length vs → IsPicked (m + suc n) p (get_or vs j 0)) =
     λ j h. subst (λ e. IsPicked e p (get_or vs j 0))
-        (let e : m + 1 + n ≡ m + suc n = omega arith in e)
+    (let e : m + 1 + n ≡ m + suc n = omega arith in e)
     (picked_within n (m + 1) p j h) in
     elim (p m) as (λ b. p m ≡ b → k < length (cond b (m ∷ vs) vs)
     → IsPicked (m + suc n) p (get_or (cond b (m ∷ vs) vs) k 0)) [
@@ -170,7 +170,7 @@ pub not_before : (n : ℕ) (p : ℕ → Bool) (k v : ℕ) → k < length (vertic
 not_before n p k v l at c =
     let xs : List ℕ = vertices_where n p in
     let rises = AllPairs-from_increasing xs
-        (IsStrictlyIncreasing-filter p (range_with_len 0 n) (range_rises n)) in
+    (IsStrictlyIncreasing-filter p (range_with_len 0 n) (range_rises n)) in
     let long : length (take k xs) ≡ k = length-take-le k xs (omega arith) in
     let j : ℕ = c.0 in
     let small : j < k = omega (arith, c.1) in

@@ -1,10 +1,10 @@
 -- How far the refinement has come, put by put and iteration by iteration.
-use Rattle.std.proofs.Common.{◌≡◌, ℕ, ℤ, zero, suc, ◌+◌, ◌-◌, ◌<◌, ◌≤◌, Bool, true, false, eqb}
-use Rattle.std.proofs.Common.{List, [], ◌∷◌, ◌++◌, Option, Some, None, length, get_or, map, take}
-use Rattle.std.proofs.Common.{set, replicate, inl, inr, refl, sym, ap, ◌∙◌, subst, arith}
+use Rattle.std.proofs.Common.{◌≡◌, ℕ, ℤ, zero, suc, ◌+◌, ◌-◌, ◌<◌, ◌≤◌, eqb}
+use Rattle.std.proofs.Common.{List, [], ◌∷◌, ◌++◌, Some, None, length, get_or, map, take}
+use Rattle.std.proofs.Common.{replicate, inl, inr, refl, sym, ap, ◌∙◌, subst, arith}
 use Rattle.std.proofs.Common.{length-append, length-set}
 use Rattle.std.specs.Prelude.{slice_get, IsSome}
-use Rattle.std.specs.List.{Contains, range_with_len}
+use Rattle.std.specs.List.{Contains}
 use Rattle.std.specs.List.Sorted.{IsSorted}
 use Rattle.std.specs.Map.{lookup}
 use Rattle.std.specs.Ordering.{nat_cmp}
@@ -33,7 +33,6 @@ use Rattle.agg_history.specs.Pruned.{HistoryState, rows_of}
 use Rattle.agg_history.specs.Puts.{PutTable, Round, IsPutMore, put_at, round_at, with_put}
 use Rattle.agg_history.proofs.PutLemmas.{laid_new}
 use Rattle.refine_rows.specs.Over.{AreOver, IsChangeOver}
-use Rattle.refine_rows.specs.Picked.{vertices_where}
 use Rattle.refine_rows.specs.Progress.{again, vertices_put, IsRefinedTo, IsRefinedWithin, StandsFor}
 use Rattle.refine_rows.specs.Refining.{CanRefine, IsRefinedBy}
 use Rattle.refine_rows.specs.Seen.{agg_now}
@@ -45,7 +44,7 @@ found_put : (round : Round) (v : ℕ) → Contains (map (λ put. put.0) round) v
     → lookup (λ u. eqb v u) round ≡ None → ⊥
 found_put round v c none =
     let some : IsSome (lookup (λ u. eqb v u) round) = IsSome-lookup_from_Contains nat_eq_equiv v
-        round c in
+    round c in
     false≢true (subst IsSome none some)
 
 -- ---- one more put
@@ -73,7 +72,7 @@ module _ (p : ProgramEntries) (g h : Graph) (history : HistoryState) (t : PutTab
         vertex_is
         (subst (λ vs. Contains vs v) within.first
         (Contains-keys_from_lookup exact_unsigned_eq v (round_at t.puts i)
-            (subst IsSome (sym is) refl))))
+        (subst IsSome (sym is) refl))))
   ] refl
 
   module _ (e : Entry) (low : i ≤ t.cut) (is_new_entry : e ≡ entry p h i v)
@@ -99,8 +98,10 @@ module _ (p : ProgramEntries) (g h : Graph) (history : HistoryState) (t : PutTab
         → IsRefined p g h (put_at grown.puts) j u
     still j u less r =
         let same = found.elsewhere j u (λ s _. let l = less in omega arith) in
-        record { right = λ x is. r.right x (sym same ∙ is); rest = λ none. r.rest (sym same ∙ none)
-            }
+        record {
+          right = λ x is. r.right x (sym same ∙ is);
+          rest = λ none. r.rest (sym same ∙ none);
+        }
 
     pub within_more : IsRefinedWithin p g h history grown i
     within_more = record {
@@ -198,7 +199,7 @@ module _ (p : ProgramEntries) (g h : Graph) (history : HistoryState) (t : PutTab
           ];
           first = ap (map (λ (put : ℕ × Entry). put.0)) none
               ∙ ap (λ (round : Round). take (length (map (λ (put : ℕ × Entry). put.0) round))
-                  (again p g h (i + 1))) (sym none);
+              (again p g h (i + 1))) (sym none);
           right = λ v e there is. absurd (empty_round (round_at t.puts (i + 1)) v e none is);
           rest = λ j past. w.rest j (omega arith);
         };
@@ -243,7 +244,7 @@ module _ (p : ProgramEntries) (g h : Graph) (history : HistoryState) (t : PutTab
             listed = λ j less. absurd (omega arith);
             first = ap (map (λ (put : ℕ × Entry). put.0)) (none 0)
                 ∙ ap (λ (round : Round). take (length (map (λ (put : ℕ × Entry). put.0) round))
-                    (again p g h 0)) (sym (none 0));
+                (again p g h 0)) (sym (none 0));
             right = λ v e there found. absurd (empty_round (round_at t.puts 0) v e (none 0) found);
             rest = λ j past. none j;
           };
@@ -255,7 +256,7 @@ module _ (p : ProgramEntries) (g h : Graph) (history : HistoryState) (t : PutTab
   full_rows n cut e k d l =
       let long = length-map-range_with_len (entries p h) 0 (cut + 1) in
       ap length (get_or-map-range_with_len (entries p h) 0 (cut + 1) k k d (omega arith)
-          (omega arith))
+      (omega arith))
       ∙ entries_long p h k ∙ e
 
   pub ends : AreOver p g h → IsRefinedTo p g h history t (history.cut + 1)

@@ -1,28 +1,27 @@
 -- What the old rows have, and what the rows have with puts laid over them.
-use Rattle.std.proofs.Common.{◌≡◌, ℕ, ℤ, pos, zero, suc, ◌+◌, ◌-◌, ◌<◌, ◌≤◌, Bool, true, false}
-use Rattle.std.proofs.Common.{◌||◌, cond, List, [], Option, Some, None, length, get_or, map, inl}
-use Rattle.std.proofs.Common.{inr, refl, sym, ap, ◌∙◌, subst, arith}
+use Rattle.std.proofs.Common.{◌≡◌, ℕ, ℤ, pos, zero, suc, ◌+◌, ◌<◌, ◌≤◌, true, false}
+use Rattle.std.proofs.Common.{◌||◌, cond, List, [], Option, Some, None, length, get_or, map}
+use Rattle.std.proofs.Common.{refl, sym, ap, ◌∙◌, arith}
 use Rattle.std.specs.Prelude.{IsSome}
-use Rattle.std.specs.List.{range_with_len, All, zip}
+use Rattle.std.specs.List.{range_with_len}
 use Rattle.std.proofs.lemmas.List.FromFn.{get_or-map-range_with_len, length-map-range_with_len}
 use Rattle.std.proofs.lemmas.List.FromFn.{fill_by_all}
 use Rattle.std.proofs.lemmas.Slice.Zip.{length-zip}
-use Rattle.bolt_base.specs.Differs.{is_new}
 use Rattle.bolt_base.specs.Graph.{Graph, vertices}
 use Rattle.bolt_base.specs.Keep.{Entry, Row}
 use Rattle.bolt_base.specs.RowTable.{entry_at}
 use Rattle.vertex_expr.specs.declared.program.ProgramEntries.{ProgramEntries}
 use Rattle.range_check.specs.Gathered.{empty_of}
 use Rattle.run_model.specs.Program.{lanes, by_lane, number}
-use Rattle.run_model.specs.Refined.{is_again, laid, laid_values, row_values, IsRefined}
-use Rattle.run_model.specs.Rows.{Lists, at, aggr, row, entry, entries, rows_to}
+use Rattle.run_model.specs.Refined.{is_again, laid_values, row_values, IsRefined}
+use Rattle.run_model.specs.Rows.{at, aggr, row, entry, entries, rows_to}
 use Rattle.run_model.specs.Steps.{is_target, value_changed, attr_changed, step}
 use Rattle.run_model.proofs.ByLane.{IsSoFar, by_lane_at_end}
 use Rattle.run_model.proofs.Iteration.{new_is}
 use Rattle.run_model.proofs.RefinedRows.{row_entry, laid_is}
 use Rattle.run_model.proofs.RowLemmas.{values_whole, aggregates_whole}
 use Rattle.run_model.proofs.Still.{not_new}
-use Rattle.agg_history.specs.Pruned.{HistoryState, rows_of, rows_from, vertices_of, read_at}
+use Rattle.agg_history.specs.Pruned.{HistoryState, rows_of, vertices_of, read_at}
 use Rattle.agg_history.specs.Puts.{PutTable, put_at, laid_at}
 use Rattle.refine_rows.specs.Over.{AreOver}
 use Rattle.refine_rows.specs.Progress.{StandsFor, IsLaidOver}
@@ -37,38 +36,38 @@ entries_long p g i =
 
 module _ (p : ProgramEntries) (g : Graph) (history : HistoryState) (stands : StandsFor p g history)
   where
-  -- the history has the vertices of the graph
-  pub same_vertices : vertices_of history ≡ vertices g
-  same_vertices =
-      sym (length-map-range_with_len (read_at history.now 0) 0 (vertices_of history))
-      ∙ sym (ap length (get_or-map-range_with_len
-      (λ i. map (read_at history.now i) (range_with_len 0 (vertices_of history))) 0
-          (history.cut + 1) 0 0 []
-      (omega arith) (omega arith)))
-      ∙ ap (λ (rows : List Row). length (get_or rows 0 [])) stands.rows
-      ∙ ap length (get_or-map-range_with_len (entries p g) 0 (history.cut + 1) 0 0 [] (omega arith)
-          (omega arith))
-      ∙ entries_long p g 0
+    -- the history has the vertices of the graph
+    pub same_vertices : vertices_of history ≡ vertices g
+    same_vertices =
+        sym (length-map-range_with_len (read_at history.now 0) 0 (vertices_of history))
+        ∙ sym (ap length (get_or-map-range_with_len
+        (λ i. map (read_at history.now i) (range_with_len 0 (vertices_of history))) 0
+        (history.cut + 1) 0 0 []
+        (omega arith) (omega arith)))
+        ∙ ap (λ (rows : List Row). length (get_or rows 0 [])) stands.rows
+        ∙ ap length (get_or-map-range_with_len (entries p g) 0 (history.cut + 1) 0 0 [] (omega arith)
+        (omega arith))
+        ∙ entries_long p g 0
 
-  pub old_entry : (i v : ℕ) → i ≤ history.cut → v < vertices g
-      → entry_at (rows_of history) i v ≡ entry p g i v
-  old_entry i v low there = ap (λ rows. entry_at rows i v) stands.rows
-      ∙ row_entry p g history.cut i v low there
+    pub old_entry : (i v : ℕ) → i ≤ history.cut → v < vertices g
+        → entry_at (rows_of history) i v ≡ entry p g i v
+    old_entry i v low there = ap (λ rows. entry_at rows i v) stands.rows
+        ∙ row_entry p g history.cut i v low there
 
-  pub had_old : (i v : ℕ) → v < vertices g
-      → had_before p g history.cut i v ≡ (entry_at (rows_of history) i v).0
-  had_old i v there =
-      ap (λ b. cond b (by_lane p (λ _. empty_of p.combine))
-          (entry_at (rows_to p g history.cut) i v).0)
-      (not_new (vertices g) v there)
-      ∙ ap (λ rows. (entry_at rows i v).0) (sym stands.rows)
+    pub had_old : (i v : ℕ) → v < vertices g
+        → had_before p g history.cut i v ≡ (entry_at (rows_of history) i v).0
+    had_old i v there =
+        ap (λ b. cond b (by_lane p (λ _. empty_of p.combine))
+        (entry_at (rows_to p g history.cut) i v).0)
+        (not_new (vertices g) v there)
+        ∙ ap (λ rows. (entry_at rows i v).0) (sym stands.rows)
 
-  pub had_new : (i v : ℕ) → vertices g ≤ v
-      → had_before p g history.cut i v ≡ by_lane p (λ _. empty_of p.combine)
-  had_new i v past =
-      ap (λ b. cond b (by_lane p (λ _. empty_of p.combine))
-          (entry_at (rows_to p g history.cut) i v).0)
-      (new_is g v past)
+    pub had_new : (i v : ℕ) → vertices g ≤ v
+        → had_before p g history.cut i v ≡ by_lane p (λ _. empty_of p.combine)
+    had_new i v past =
+        ap (λ b. cond b (by_lane p (λ _. empty_of p.combine))
+        (entry_at (rows_to p g history.cut) i v).0)
+        (new_is g v past)
 
 -- ---- as many numbers as lanes
 pub value_long : (p : ProgramEntries) (g : Graph) (i v : ℕ) → v < vertices g
@@ -111,7 +110,7 @@ module _ (p : ProgramEntries) (g h : Graph) (history : HistoryState) (t : PutTab
     (refined : IsRefined p g h (put_at t.puts) i v) where
   -- so it was put
   pub new_put : vertices g ≤ v → IsSome (put_at t.puts i v)
-  new_put past = some (put_at t.puts i v) (λ none. refined.rest none) 
+  new_put past = some (put_at t.puts i v) (λ none. refined.rest none)
     where
       some : (o : Option Entry) → (o ≡ None → is_again p g h i v ≡ false) → IsSome o
       some (Some e) r = refl
@@ -147,10 +146,10 @@ module _ (p : ProgramEntries) (g : Graph) (history : HistoryState) (stands : Sta
       let w = values_whole p g i in
       let count = same_vertices p g history stands in
       sym (fill_by_all (λ v. (entry_at (rows_of history) i v).1) (row p g i) (vertices_of history)
-          []
+      []
       (w.each_vertex ∙ sym count)
       (λ v there. sym (ap (λ (e : Entry). e.1)
-          (old_entry p g history stands i v low (omega arith)))))
+      (old_entry p g history stands i v low (omega arith)))))
 
   pub old_long : (v : ℕ) → v < vertices_of history → length (entry_at (rows_of history) i v).1
       ≡ lanes p
@@ -171,7 +170,7 @@ module _ (p : ProgramEntries) (g h : Graph) (history : HistoryState) (t : PutTab
       (w.each_vertex ∙ sym count)
       (λ v there. let below : v < vertices h = omega arith in
       sym (ap (λ (e : Entry). e.1) (laid_entry p g h history t over is i v (refined v below) low
-          below))))
+      below))))
 
   pub new_long : (v : ℕ) → v < t.vertices
       → length (laid_at t.puts (rows_of history) i v).1 ≡ lanes p
@@ -179,12 +178,12 @@ module _ (p : ProgramEntries) (g h : Graph) (history : HistoryState) (t : PutTab
       let count = is.vertices in
       let below : v < vertices h = omega arith in
       ap (λ (e : Entry). length e.1)
-          (laid_entry p g h history t over is i v (refined v below) low below)
+      (laid_entry p g h history t over is i v (refined v below) low below)
       ∙ value_long p h i v below
 
   pub news_put : (v : ℕ) → t.old_vertices ≤ v → v < t.vertices → IsSome (put_at t.puts i v)
   news_put v past there =
       let count = is.vertices in
       let olds : t.old_vertices ≡ vertices g = is.belongs.vertices
-          ∙ same_vertices p g history is.stands in
+      ∙ same_vertices p g history is.stands in
       new_put p g h history t over is i v (refined v (omega arith)) (omega arith)

@@ -1,7 +1,7 @@
 -- An old graph and a new one, under a program.
 use Rattle.std.specs.Prelude.{◌≤◌, []}
 use Rattle.std.specs.FinMap as finite
-use Rattle.bolt_base.specs.Graph.{Graph, IsGood, vertices, pair_cmp}
+use Rattle.bolt_base.specs.Graph.{Graph, IsGood, vertices}
 use Rattle.vertex_expr.specs.declared.program.ProgramEntries.{ProgramEntries}
 use Rattle.range_check.specs.Breaks.{IsAccepted}
 use Rattle.adjacency.specs.ChangeOf.{IsChange}

@@ -19,11 +19,7 @@ use vertex_steps::ValueRow;
 
 impl<'a> OldRow<'a> {
     /// The row of a history that stands for the rows of the old graph.
-    pub fn new<O: OldGraph>(
-        program: &Program,
-        history: &'a History,
-        iteration: u32,
-    ) -> OldRow<'a>
+    pub fn new<O: OldGraph>(program: &Program, history: &'a History, iteration: u32) -> OldRow<'a>
         requires safe { IsAccepted program.now }
         requires stands { StandsFor program.now O.graph history.now }
         requires iteration { iteration ≤ history.now.cut }
@@ -84,7 +80,10 @@ impl<'a> ValueRow for LaidRow<'a> {
     fn value(&self, v: u32) -> Lanes {
         let mut value = Lanes::zeros(self.lanes);
         for lane in 0..self.lanes {
-            value.set(lane, self.overlay.val(self.history, self.iteration, v, lane));
+            value.set(
+                lane,
+                self.overlay.val(self.history, self.iteration, v, lane),
+            );
         }
         value
     }

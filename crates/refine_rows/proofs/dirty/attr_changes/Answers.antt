@@ -1,8 +1,7 @@
-use Rattle.std.proofs.Common.{◌≡◌, ◌&&◌, ◌+◌, ◌≤◌, ℕ, Bool, true, false, map, ap, sym, ◌∙◌}
+use Rattle.std.proofs.Common.{map, ap, sym, ◌∙◌}
 use Rattle.bolt_base.specs.Differs.{attr_changed}
 use Rattle.bolt_base.specs.Graph.{Graph, vertices}
 use Rattle.bolt_base.specs.declared.edge.AttrChange.{AttrChange}
-use Rattle.vertex_expr.specs.declared.program.ProgramEntries.{ProgramEntries}
 use Rattle.run_model.specs.Steps.{reads_attr}
 use Rattle.refine_rows.proofs.AgainLemmas.{attrs_are}
 use Rattle.refine_rows.proofs.PickLemmas.{read_where, unread_where}

@@ -1,10 +1,9 @@
-use Rattle.std.proofs.Common.{◌≡◌, ◌-◌, ◌<◌, ◌≤◌, ◌+◌, ◌++◌, ℕ, Bool, true, false, List, [], ◌∷◌}
-use Rattle.std.proofs.Common.{cond, length, filter, get_or, take, ap, sym, ◌∙◌, subst, arith, refl}
-use Rattle.bolt_base.specs.Graph.{Graph, vertices}
+use Rattle.std.proofs.Common.{◌-◌, ℕ, List}
+use Rattle.std.proofs.Common.{sym, ◌∙◌, arith}
+use Rattle.bolt_base.specs.Graph.{Graph}
 use Rattle.vertex_expr.specs.declared.program.ProgramEntries.{ProgramEntries}
 use Rattle.run_model.specs.Steps.{step, value_changed}
 use Rattle.refine_rows.specs.Picked.{old_only}
-use Rattle.refine_rows.specs.Progress.{again}
 use Rattle.refine_rows.proofs.AgainLemmas.{again_there, changed_where}
 use Rattle.refine_rows.proofs.PickLemmas.{picked_in, picked_out}
 use Rattle.refine_rows.proofs.dirty.changed_vertices.Goals as goal
@@ -26,7 +25,7 @@ has_other_value-requires g c =
     let some = c.requires.some in
     let is = c.vertices_at-u-items.ensures ∙ within.listed (c.args.i - 1) (omega arith) in
     let there = again_there p was now (c.args.i - 1) c.vertices_at-u-items.result.now
-        c.loop-u.u-index
+    c.loop-u.u-index
     is c.loop-u-test.true in
     record {
       over = c.requires.over;
@@ -63,5 +62,5 @@ returns g c =
     let some = c.requires.some in
     let is = c.vertices_at-u-items.ensures ∙ within.listed (c.args.i - 1) (omega arith) in
     changed_where p was now c.args.i c.vertices_at-u-items.result.now c.loop-u.us.items
-        c.loop-u.u-index
+    c.loop-u.u-index
     c.requires.over c.requires.some is c.loop-u-test.false c.loop-u.invariant

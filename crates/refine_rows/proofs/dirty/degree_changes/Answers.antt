@@ -1,7 +1,7 @@
-use Rattle.std.proofs.Common.{◌≡◌, ◌<◌, ◌≤◌, ◌+◌, ◌&&◌, ℕ, Bool, true, false, not, List, [], ◌∷◌}
-use Rattle.std.proofs.Common.{◌++◌, length, get_or, ap, sym, ◌∙◌, subst, arith}
+use Rattle.std.proofs.Common.{List}
+use Rattle.std.proofs.Common.{sym, ◌∙◌}
 use Rattle.bolt_base.specs.Differs.{degree_changed}
-use Rattle.bolt_base.specs.Graph.{Graph, outdeg, vertices}
+use Rattle.bolt_base.specs.Graph.{Graph, vertices}
 use Rattle.bolt_base.specs.declared.edge.Touched.{Touched}
 use Rattle.run_model.specs.Steps.{reads_outdeg}
 use Rattle.refine_rows.specs.Picked.{old_only}
@@ -43,7 +43,7 @@ loop-touched-preserved g c =
       | then-has_other_degree+in_ok-push w ↦ rw w.us-is
           (picked_in (λ (t : Touched). t.vertex) test xs c.loop-touched.touched-index _
           c.loop-touched-test.true c.loop-touched.us.items c.loop-touched.invariant
-              w.push.new.self.items
+          w.push.new.self.items
           (sym c.has_other_degree.ensures ∙ w.if-has_other_degree.true)
           w.in_ok-push.ensures.items)
       | else-has_other_degree w ↦ rw w.us-is
@@ -59,6 +59,6 @@ returns g c =
     let is = c.as_slice-touched-items.ensures ∙ c.requires.net.is_sources in
     degrees_where was now c.as_slice-touched-items.result.now c.loop-touched.us.items
     c.loop-touched.touched-index c.requires.over.more is c.loop-touched-test.false
-        c.loop-touched.invariant
+    c.loop-touched.invariant
     ∙ sym (read_where (vertices was) (degree_changed was now) (reads_outdeg c.args.program.now)
     (sym c.reads_outdeg.ensures ∙ c.if-not-reads_outdeg.false))

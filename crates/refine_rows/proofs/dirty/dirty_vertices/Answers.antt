@@ -1,4 +1,4 @@
-use Rattle.std.proofs.Common.{◌≡◌, ◌||◌, ◌&&◌, ℕ, List, ap, ◌∙◌}
+use Rattle.std.proofs.Common.{◌||◌, ◌&&◌, ◌∙◌}
 use Rattle.bolt_base.specs.Differs.{attr_changed, degree_changed}
 use Rattle.bolt_base.specs.Graph.{Graph, vertices}
 use Rattle.vertex_expr.specs.declared.program.ProgramEntries.{ProgramEntries}

@@ -1,6 +1,6 @@
-use Rattle.std.proofs.Common.{◌≡◌, ◌<◌, ℕ, Bool, true, false, not, ◌&&◌, eqb, ap, sym, ◌∙◌, arith}
+use Rattle.std.proofs.Common.{◌<◌, ℕ, not, ◌&&◌, eqb, ap, sym, ◌∙◌, arith}
 use Rattle.bolt_base.specs.Differs.{degree_changed}
-use Rattle.bolt_base.specs.Graph.{Graph, outdeg, vertices}
+use Rattle.bolt_base.specs.Graph.{Graph, vertices}
 use Rattle.run_model.proofs.Still.{is_le, not_new}
 use Rattle.refine_rows.proofs.dirty.has_other_degree.Goals as goal
 

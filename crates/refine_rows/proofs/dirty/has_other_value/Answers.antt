@@ -1,4 +1,4 @@
-use Rattle.std.proofs.Common.{◌≡◌, ◌-◌, ◌<◌, ℕ, ℤ, Bool, true, false, not, ◌&&◌, List, ap, sym, ◌∙◌}
+use Rattle.std.proofs.Common.{◌≡◌, ◌-◌, ◌<◌, ℤ, not, ◌&&◌, List, ap, sym, ◌∙◌}
 use Rattle.std.proofs.Common.{arith}
 use Rattle.std.specs.Cmp.Lexicographic.{pointwise}
 use Rattle.std.specs.Cmp.Rules.{signed_items}
@@ -41,9 +41,10 @@ returns g c =
     let some = c.vertices.ensures.count in
     let past = c.if-vertices-u.false in
     let there : c.args.u < vertices was = omega arith in
-    let same : c.same.result ≡ pointwise int_eq a b = same_from_decides _ _
-    (λ t. sym c.old_value-was.ensures ∙ c.same.ensures.0 t ∙ c.laid_value-now.ensures,
-    λ e. c.same.ensures.1 (c.old_value-was.ensures ∙ e ∙ sym c.laid_value-now.ensures))
+    let same : c.same.result ≡ pointwise int_eq a b = same_from_decides _ _ (
+      λ t. sym c.old_value-was.ensures ∙ c.same.ensures.0 t ∙ c.laid_value-now.ensures,
+      λ e. c.same.ensures.1 (c.old_value-was.ensures ∙ e ∙ sym c.laid_value-now.ensures),
+    )
     (signed_items a b) in
     ap not same
     ∙ sym (ap (λ n. not n && value_changed (step p was now c.args.i) c.args.u)

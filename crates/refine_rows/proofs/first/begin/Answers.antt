@@ -1,5 +1,5 @@
-use Rattle.std.proofs.Common.{◌≡◌, ◌<◌, ◌≤◌, ◌+◌, ℕ, List, [], ◌∷◌, length, get_or, map, ap, sym}
-use Rattle.std.proofs.Common.{◌∙◌, arith, refl}
+use Rattle.std.proofs.Common.{◌≡◌, ◌+◌, ℕ, List, length, get_or, map, ap, sym}
+use Rattle.std.proofs.Common.{◌∙◌, arith}
 use Rattle.std.specs.Prelude.{slice_get}
 use Rattle.std.proofs.lemmas.Option.{slice_get-get_or}
 use Rattle.bolt_base.specs.Graph.{Graph}
@@ -39,7 +39,7 @@ loop-v-preserved g c = record {
   within = c.in_ok-put_first.ensures.within;
   count = ap length c.in_ok-put_first.ensures.put
       ∙ length_with_one (vertices_put c.loop-v.overlay 0)
-          (get_or c.deref-v-items.result.now c.loop-v.v-index 0)
+      (get_or c.deref-v-items.result.now c.loop-v.v-index 0)
       ∙ ap (λ (n : ℕ). n + 1) c.loop-v.invariant.count;
 }
 

@@ -1,7 +1,7 @@
-use Rattle.std.proofs.Common.{rules, ◌≡◌, ◌<◌, ◌+◌, ◌≤◌, ℕ, ℤ, length, FitsSigned, w64, sym, ap}
+use Rattle.std.proofs.Common.{rules, ◌≡◌, ◌<◌, ◌+◌, ℕ, ℤ, length, FitsSigned, w64, sym, ap}
 use Rattle.std.proofs.Common.{◌∙◌, subst, arith}
 use Rattle.std.proofs.lemmas.Int.{to_z-of_z}
-use Rattle.bolt_base.specs.Graph.{Graph, vertices}
+use Rattle.bolt_base.specs.Graph.{Graph}
 use Rattle.bolt_base.specs.Keep.{Entry}
 use Rattle.vertex_expr.specs.declared.program.ProgramEntries.{ProgramEntries}
 use Rattle.run_model.specs.Program.{lanes, number}

@@ -1,4 +1,4 @@
-use Rattle.std.proofs.Common.{rules, ◌≡◌, ◌<◌, ◌+◌, ◌≤◌, ℕ, ℤ, length, FitsSigned, w64, sym, ap}
+use Rattle.std.proofs.Common.{rules, ◌≡◌, ◌<◌, ◌+◌, ℕ, ℤ, length, FitsSigned, w64, sym, ap}
 use Rattle.std.proofs.Common.{◌∙◌, subst, arith}
 use Rattle.std.proofs.lemmas.Int.{to_z-of_z}
 use Rattle.bolt_base.specs.Graph.{Graph, vertices}
@@ -47,7 +47,7 @@ loop-lane-preserved g c =
     let is : c.agg.result ≡ f lane = c.agg.ensures
     ∙ ap (λ (e : Entry). number e.0 lane)
     (old_entry p was c.args.history.now c.requires.stands c.args.i c.args.v c.requires.iteration
-        there) in
+    there) in
     let fits : FitsSigned w64 c.agg.result = search rules in
     subst (IsSoFar f (lanes p) (lane + 1)) (sym c.set.ensures)
     (one_more f (lanes p) lane c.loop-lane.agg _ c.loop-lane.invariant small
@@ -69,4 +69,4 @@ returns g c =
     ∙ sym (had_old p was c.args.history.now c.requires.stands c.args.i c.args.v there
     ∙ ap (λ (e : Entry). e.0)
     (old_entry p was c.args.history.now c.requires.stands c.args.i c.args.v c.requires.iteration
-        there))
+    there))

@@ -6,7 +6,7 @@ use Rattle.bolt_base.specs.Keep.{Entry}
 use Rattle.vertex_expr.specs.declared.program.ProgramEntries.{ProgramEntries}
 use Rattle.run_model.specs.Program.{lanes, number}
 use Rattle.run_model.specs.Rows.{at, row}
-use Rattle.run_model.proofs.ByLane.{IsSoFar, none_so_far, one_more}
+use Rattle.run_model.proofs.ByLane.{IsSoFar, one_more}
 use Rattle.refine_rows.proofs.ReadLemmas.{copied_value, old_entry, same_vertices}
 use Rattle.refine_rows.proofs.values.old_value.Goals as goal
 
@@ -35,7 +35,7 @@ loop-lane-preserved g c =
     let is : c.val.result ≡ f lane = c.val.ensures
     ∙ ap (λ (e : Entry). number e.1 lane)
     (old_entry p was c.args.history.now c.requires.stands c.args.i c.args.v c.requires.iteration
-        c.requires.vertex) in
+    c.requires.vertex) in
     let fits : FitsSigned w64 c.val.result = search rules in
     subst (IsSoFar f (lanes p) (lane + 1)) (sym c.set.ensures)
     (one_more f (lanes p) lane c.loop-lane.value _ c.loop-lane.invariant small

@@ -1,5 +1,5 @@
-use Rattle.std.proofs.Common.{rules, ◌≡◌, ◌<◌, ◌≤◌, ◌+◌, ℕ, ℤ, List, length, FitsSigned, w64, sym}
-use Rattle.std.proofs.Common.{ap, ◌∙◌, subst, arith}
+use Rattle.std.proofs.Common.{rules, ◌<◌, ◌+◌, ℕ, ℤ, FitsSigned, w64, sym}
+use Rattle.std.proofs.Common.{◌∙◌, subst}
 use Rattle.std.proofs.lemmas.Int.{to_z-of_z}
 use Rattle.run_model.specs.Program.{number}
 use Rattle.run_model.proofs.ByLane.{IsSoFar, one_more}
@@ -12,7 +12,7 @@ pub val-requires-clause-vertex : goal.val-requires-clause-vertex
 val-requires-clause-vertex c =
     let s = c.args.self.now in
     below_row (λ (u : ℕ). (entry_at (rows_of s.history.now) s.iteration u).1)
-        (vertices_of s.history.now) c.args.v c.requires.vertex
+    (vertices_of s.history.now) c.args.v c.requires.vertex
 
 pub loop-lane-preserved : goal.loop-lane-preserved
 loop-lane-preserved c =
@@ -28,11 +28,11 @@ pub returns : goal.returns
 returns c =
     let s = c.args.self.now in
     let there = below_row (λ (u : ℕ). (entry_at (rows_of s.history.now) s.iteration u).1)
-        (vertices_of s.history.now) c.args.v c.requires.vertex in
+    (vertices_of s.history.now) c.args.v c.requires.vertex in
     record {
       value = copied_list s.lanes c.loop-lane.lane c.loop-lane.value
           (entry_at (rows_of s.history.now) s.iteration c.args.v).1
           (s.fits.each c.args.v there) c.loop-lane.invariant c.loop-lane-test.false
           ∙ sym (at_row (λ (u : ℕ). (entry_at (rows_of s.history.now) s.iteration u).1)
-              (vertices_of s.history.now) c.args.v c.requires.vertex);
+          (vertices_of s.history.now) c.args.v c.requires.vertex);
     }

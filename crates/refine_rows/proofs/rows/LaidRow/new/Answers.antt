@@ -1,4 +1,4 @@
-use Rattle.std.proofs.Common.{◌≡◌, ◌≤◌, ℕ, length, ap, sym, ◌∙◌, arith}
+use Rattle.std.proofs.Common.{◌≡◌, length, ap, sym, ◌∙◌, arith}
 use Rattle.bolt_base.specs.Graph.{Graph}
 use Rattle.vertex_expr.specs.declared.program.ProgramEntries.{ProgramEntries}
 use Rattle.run_model.specs.Program.{lanes}
@@ -27,7 +27,7 @@ invariant_of-result g c =
         belongs = laid.belongs;
         new = λ v past there. news_put p was now c.args.history.now c.args.overlay.now
             c.requires.over laid c.args.iteration c.requires.iteration c.requires.refined v past
-                there;
+            there;
         each = λ v there. new_long p was now c.args.history.now c.args.overlay.now c.requires.over
             laid c.args.iteration c.requires.iteration c.requires.refined v there ∙ sym len;
       };
