@@ -1,5 +1,6 @@
 -- How a seat's view grows.
-use Rattle.std.proofs.Common.{w64, ℤ, ◌≡◌, ℕ, ◌+◌, ◌*◌, ◌≤◌, List, [], ◌∷◌, ◌++◌, length, map, refl}
+use Rattle.std.proofs.Common.{append-nil, w64, ℤ, ◌≡◌, ℕ, ◌+◌, ◌*◌, ◌≤◌, List, [], ◌∷◌, ◌++◌}
+use Rattle.std.proofs.Common.{length, map, refl}
 use Rattle.std.proofs.Common.{sym, ap, ◌∙◌, arith, append_assoc}
 use Rattle.bolt_base.specs.Residue.{Amount}
 use Rattle.std.specs.Int.{cast_unsigned}
@@ -17,15 +18,12 @@ use Rattle.edge_map.specs.Grew.{Grew}
 pub grew_none : (v : View) → Grew v v [] [] []
 grew_none v = record {
   units = refl;
-  amounts = sym (append_nil v.amounts);
-  marks = sym (append_nil v.marks);
+  amounts = sym (append-nil v.amounts);
+  marks = sym (append-nil v.marks);
   also = [];
-  met = sym (append_nil v.met);
+  met = sym (append-nil v.met);
   bits = λ b. refl;
-} where
-  append_nil : {X : Type 0} (xs : List X) → xs ++ [] ≡ xs
-  append_nil [] = refl
-  append_nil (x ∷ xs) = ap (λ ys. x ∷ ys) (append_nil xs)
+}
 
 -- one vertex more, which is marked
 pub grew_mark : (start v w : View) (more adds : List Amount) (ends ts us : List ℕ) (b : ℕ)

@@ -2,10 +2,10 @@
 use Rattle.std.specs.List.{sum_by}
 use Rattle.std.proofs.Common.{min, zero-add, add-zero, ◌≡◌, ℕ, zero, suc, ◌+◌, ◌-◌, ◌<◌, ◌≤◌, List}
 use Rattle.std.proofs.Common.{[], ◌∷◌, ◌++◌, length, take, drop, map, refl, sym, ap, ◌∙◌, subst}
-use Rattle.std.proofs.Common.{arith, length-append}
+use Rattle.std.proofs.Common.{arith}
 use Rattle.std.specs.List.{All, range_with_len}
 use Rattle.std.proofs.Math.Seq.{drop-append_seam}
-use Rattle.std.proofs.lemmas.List.{take-append-le, map-append, length-map}
+use Rattle.std.proofs.lemmas.List.{take-append-le, map-append}
 use Rattle.std.proofs.lemmas.List.Elements.{All-append, All-map, All-filter, filter_passes}
 use Rattle.std.proofs.lemmas.List.FromFn.{length-range_with_len, get_or-range_with_len}
 use Rattle.std.proofs.lemmas.List.Sums.{sum_by-append, sum_by-cons}
@@ -26,7 +26,7 @@ use Rattle.edge_map.specs.declared.tasks.Tasks.{Tasks}
 use Rattle.edge_map.specs.declared.tasks.Work.{Work}
 use Rattle.edge_map.specs.declared.tasks.Work.TheVariants.{Removed, Added, Dirty}
 use Rattle.edge_map.proofs.RisingTasks.{added_has}
-use Rattle.edge_map.proofs.Walking.{flat_map-append}
+use Rattle.std.proofs.lemmas.List.Concat.{flat_map-append}
 
 -- the slice between two cuts
 pub part_is : (x : Plan) (xs : List Work) (total s e n m : ℕ) → xs ≡ x.works.items → total

@@ -1,5 +1,6 @@
 -- What is computed before the first addition.
-use Rattle.std.proofs.Common.{◌≡◌, ℕ, ◌+◌, ◌<◌, ◌≤◌, Bool, true, false, cond, List, [], ◌∷◌, ◌++◌}
+use Rattle.std.proofs.Common.{append-nil, ◌≡◌, ℕ, ◌+◌, ◌<◌, ◌≤◌, Bool, true, false, cond, List, []}
+use Rattle.std.proofs.Common.{◌∷◌, ◌++◌}
 use Rattle.std.proofs.Common.{length, get_or, map, filter, refl, sym, ap, ◌∙◌, subst, arith, inl}
 use Rattle.std.proofs.Common.{inr, append_assoc}
 use Rattle.std.specs.List.{range_with_len}
@@ -47,10 +48,6 @@ places_more f k = sym (ap (filter f) (map_id (range_with_len 0 (k + 1))))
       map_id [] = refl
       map_id (x ∷ xs) = ap (λ ys. x ∷ ys) (map_id xs)
 
-append_nil : {X : Type 0} (xs : List X) → xs ++ [] ≡ xs
-append_nil [] = refl
-append_nil (x ∷ xs) = ap (λ ys. x ∷ ys) (append_nil xs)
-
 pub place_passes : {X : Type 0} (g : ℕ → X) (f : ℕ → Bool) (k : ℕ) (zs xs ys : List X) → f k ≡ true
     → xs ≡ zs ++ map g (filter f (range_with_len 0 k)) → ys ≡ xs ++ g k ∷ [] → ys ≡ zs
     ++ map g (filter f (range_with_len 0 (k + 1)))
@@ -70,4 +67,4 @@ place_fails {X} g f k zs xs fails so_far =
     let more = places_more f k in
     so_far ∙ ap (λ (l : List ℕ). zs ++ map g l)
     (sym (more ∙ ap (λ (b : Bool). filter f (range_with_len 0 k) ++ cond b (k ∷ []) []) fails
-    ∙ append_nil (filter f (range_with_len 0 k))))
+    ∙ append-nil (filter f (range_with_len 0 k))))

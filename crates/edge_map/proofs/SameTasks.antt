@@ -32,7 +32,7 @@ use Rattle.edge_map.specs.declared.tasks.Work.{Work}
 use Rattle.edge_map.specs.declared.tasks.Work.TheVariants.{Removed, Added, Dirty}
 use Rattle.edge_map.proofs.Parts.{places_fit}
 use Rattle.edge_map.proofs.TasksAgree.{stayed_same}
-use Rattle.edge_map.proofs.Walking.{flat_map-append}
+use Rattle.std.proofs.lemmas.List.Concat.{flat_map-append}
 
 flat_map-same : {X Y : Type 0} (f g : X → List Y) (xs : List X)
     → AllByRecursion (λ x. f x ≡ g x) xs → flat_map f xs ≡ flat_map g xs

@@ -1,7 +1,7 @@
 -- The tasks of an iteration agree with its new graph.
 use Rattle.std.proofs.Common.{◌≡◌, ℕ, ℤ, pos, ◌-◌, ◌<◌, ◌≤◌, Bool, true, false, not, ◌&&◌}
-use Rattle.std.proofs.Common.{◌||◌, eqb, cond, List, [], ◌∷◌, length, get_or, map, filter, T}
-use Rattle.std.proofs.Common.{refl, sym, ap, ◌∙◌, subst, arith, inl, inr, Option, Some, None}
+use Rattle.std.proofs.Common.{eqb, cond, List, [], ◌∷◌, length, get_or, map, filter, T}
+use Rattle.std.proofs.Common.{refl, sym, ap, ◌∙◌, subst, arith, inl, inr, Some}
 use Rattle.std.specs.Cmp.{signed_Decides}
 use Rattle.std.specs.FinMap as finite
 use Rattle.std.specs.FinMap.{is_sorted, find}
@@ -16,7 +16,7 @@ use Rattle.std.proofs.lemmas.List.Folds.{list_any_at}
 use Rattle.std.proofs.lemmas.Map.Views.{any-filter_same}
 use Rattle.bolt_base.specs.Change.{same_weights, stays, removed, added, stayed, attr_at}
 use Rattle.bolt_base.specs.Graph.{Graph, IsBetween, IsGood, Pair, pair_cmp, edge, edges, out_edges}
-use Rattle.bolt_base.specs.Graph.{vertices, outdeg}
+use Rattle.bolt_base.specs.Graph.{vertices}
 use Rattle.bolt_base.specs.LawsOfChange.{edge_stays}
 use Rattle.bolt_base.specs.Plain.{entry}
 use Rattle.bolt_base.specs.declared.edge.Edge.{Edge}
@@ -28,15 +28,12 @@ use Rattle.bolt_base.proofs.SortedKeys.{both_hold, equal_tied, unequal_untied}
 use Rattle.vertex_expr.specs.ProgramBounds.{lane_spans}
 use Rattle.vertex_expr.specs.Span.{AreIn}
 use Rattle.vertex_expr.specs.declared.program.ProgramEntries.{ProgramEntries}
-use Rattle.range_check.specs.Breaks.{IsAccepted}
-use Rattle.run_model.specs.Rows.{at}
-use Rattle.run_model.specs.Steps.{Step, step, tail_step}
+use Rattle.run_model.specs.Steps.{Step}
 use Rattle.run_model.proofs.InRange.{no_edge, values_in}
 use Rattle.edge_map.specs.Additions.{no_source, source_at, is_added, stayed_out}
 use Rattle.edge_map.specs.Agrees.{EdgesRise, HasEdge, LacksEdge, IsSource, IsTask, AgreesWith}
-use Rattle.edge_map.specs.TaskLaws.{IsGoodStep, IsSide, AreTasksOf}
+use Rattle.edge_map.specs.TaskLaws.{IsGoodStep, AreTasksOf}
 use Rattle.edge_map.specs.TaskLaws.{StepsAreGood, TailStepsAreGood}
-use Rattle.edge_map.specs.declared.tasks.Source.{Source}
 use Rattle.edge_map.specs.declared.tasks.TaskEdge.{TaskEdge}
 use Rattle.edge_map.specs.declared.tasks.Tasks.{Tasks}
 use Rattle.edge_map.proofs.RisingTasks.{pair_before, edge_ends, some_end}

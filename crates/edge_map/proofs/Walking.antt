@@ -1,9 +1,11 @@
 -- The edges out of a dirty source, one after the other.
-use Rattle.std.proofs.Common.{◌≡◌, ℕ, zero, suc, ◌+◌, ◌<◌, ◌≤◌, Bool, true, false, eqb, cond, List}
+use Rattle.std.proofs.Common.{append-nil, ◌≡◌, ℕ, suc, ◌+◌, ◌<◌, ◌≤◌, Bool, true, false, eqb}
+use Rattle.std.proofs.Common.{cond, List}
 use Rattle.std.proofs.Common.{[], ◌∷◌, ◌++◌, length, drop, map, Some, slice_get, refl, sym, ap, ◌∙◌}
 use Rattle.std.proofs.Common.{subst, arith, add-one, append_assoc, drop-cons, length-append}
-use Rattle.std.specs.List.{All, flat_map}
-use Rattle.std.proofs.lemmas.List.{map-append, drop-drop}
+use Rattle.std.specs.List.{All}
+use Rattle.std.proofs.lemmas.List.{map-append, drop-drop, drop_all}
+use Rattle.std.proofs.lemmas.List.Concat.{flat_map-append}
 use Rattle.std.proofs.lemmas.List.Elements.{All-filter}
 use Rattle.std.proofs.lemmas.Option.{get_or_from_slice_get}
 use Rattle.bolt_base.specs.Graph.{Graph, IsBetween, IsGood, edges, out_edges, vertices}
@@ -19,16 +21,6 @@ use Rattle.edge_map.specs.Grew.{Grew}
 use Rattle.edge_map.specs.Walks.{Walked, begins, from_source, unadded, walked_out}
 use Rattle.edge_map.specs.declared.tasks.Tasks.{Tasks}
 use Rattle.edge_map.specs.declared.tasks.TaskEdge.{TaskEdge}
-
-pub append_nil : {X : Type 0} (xs : List X) → xs ++ [] ≡ xs
-append_nil [] = refl
-append_nil (x ∷ xs) = ap (λ ys. x ∷ ys) (append_nil xs)
-
-pub flat_map-append : {X Y : Type 0} (f : X → List Y) (xs ys : List X) → flat_map f (xs ++ ys)
-    ≡ flat_map f xs ++ flat_map f ys
-flat_map-append f [] ys = refl
-flat_map-append f (x ∷ xs) ys = ap (λ l. f x ++ l) (flat_map-append f xs ys)
-    ∙ sym (append_assoc (f x) (flat_map f xs) (flat_map f ys))
 
 unadded_skip : (k : ℕ) (xs : List TaskEdge) (e : Edge) (es : List Edge) → begins k e.dst xs ≡ true
     → unadded k xs (e ∷ es) ≡ unadded k (drop 1 xs) es
@@ -56,8 +48,8 @@ module _ (p : ProgramEntries) (g : Graph) (t : Tasks) (place : ℕ) where
     done = [];
     rest = ap (λ (xs : List TaskEdge). unadded place xs outs) e;
     grew = λ start more ends h. subst (λ (l : List ℕ). Grew start first (more ++ []) l before)
-        (sym (append_nil ends)) (subst (λ (l : List Amount). Grew start first l ends before)
-        (sym (append_nil more)) h);
+        (sym (append-nil ends)) (subst (λ (l : List Amount). Grew start first l ends before)
+        (sym (append-nil more)) h);
   }
 
   at_k : (k : ℕ) (e : Edge) → k < length outs → slice_get outs k ≡ Some e → drop k outs
@@ -118,7 +110,7 @@ module _ (p : ProgramEntries) (g : Graph) (t : Tasks) (place : ℕ) where
       ap (adds_of_gifts p) gifts_more
       ∙ flat_map-append (amounts_of p) (map gift w.done) (gift e ∷ [])
       ∙ ap (λ (l : List Amount). adds_of_gifts p (map gift w.done) ++ l)
-      (append_nil (amounts_of p (gift e))) in
+      (append-nil (amounts_of p (gift e))) in
       let ends_more : ends_of_gifts (map gift (w.done ++ e ∷ [])) ≡ ends_of_gifts (map gift w.done)
       ++ e.dst ∷ [] = ap ends_of_gifts gifts_more
       ∙ map-append (λ (x : Gift). x.dst) (map gift w.done) (gift e ∷ []) in
@@ -138,12 +130,6 @@ module _ (p : ProgramEntries) (g : Graph) (t : Tasks) (place : ℕ) where
             ∙ ap (λ (l : List ℕ). ends ++ l) (sym ends_more)) one);
       }
 
-  none_past : {X : Type 0} (xs : List X) (k : ℕ) → length xs ≤ k → drop k xs ≡ []
-  none_past [] zero h = refl
-  none_past [] (suc k) h = refl
-  none_past (x ∷ xs) zero h = absurd (omega arith)
-  none_past (x ∷ xs) (suc k) h = none_past xs k (omega arith)
-
   pub walk_done : (next k : ℕ) (first last : View) (before after : List ℕ)
       → Walked p g t place next k first last before after → length outs ≤ k
       → (start : View) (more : List Amount) (ends : List ℕ) → Grew start first more ends before
@@ -152,7 +138,7 @@ module _ (p : ProgramEntries) (g : Graph) (t : Tasks) (place : ℕ) where
   walk_done next k first last before after w past start more ends h =
       let all : w.done ≡ walked_out g t place = sym
       (ap (λ (l : List Edge). w.done ++ unadded place (drop next t.added) l)
-      (none_past outs k past) ∙ append_nil w.done) ∙ w.rest in
+      (drop_all k outs past) ∙ append-nil w.done) ∙ w.rest in
       subst (λ (l : List Edge). Grew start last (more ++ adds_of_gifts p (map gift l))
       (ends ++ ends_of_gifts (map gift l)) after) all (w.grew start more ends h)
 

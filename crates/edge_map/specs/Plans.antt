@@ -1,7 +1,7 @@
 -- What is ready before the first addition.
-use Rattle.std.specs.Prelude.{◌≡◌, ℕ, ℤ, ◌*◌, ◌<◌, ◌≤◌, false, length, drop, slice_index_or}
+use Rattle.std.specs.Prelude.{◌≡◌, ℕ, ℤ, ◌<◌, ◌≤◌, false, length, drop, slice_index_or}
 use Rattle.std.specs.List.{list_any}
-use Rattle.bolt_base.specs.Graph.{Graph, IsBetween, IsGood, vertices}
+use Rattle.bolt_base.specs.Graph.{Graph, IsBetween, IsGood}
 use Rattle.vertex_expr.specs.Mentions.{mentions_weight}
 use Rattle.vertex_expr.specs.declared.program.ProgramEntries.{ProgramEntries}
 use Rattle.run_model.specs.Evaluable.{AreEvaluable}

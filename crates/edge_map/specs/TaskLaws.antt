@@ -1,5 +1,5 @@
 -- Laws of the tasks of an iteration.
-use Rattle.std.specs.Prelude.{List, ◌≡◌, ◌↔◌, ℕ, ◌<◌, ◌≤◌, true, map, length}
+use Rattle.std.specs.Prelude.{List, ◌≡◌, ◌↔◌, ℕ, ◌<◌, ◌≤◌, true, map}
 use Rattle.std.specs.List.{All, flat_map}
 use Rattle.bolt_base.specs.Change.{removed, added, stayed, attr_at}
 use Rattle.bolt_base.specs.Graph.{Graph, IsGood, vertices, outdeg}

@@ -1,10 +1,10 @@
 -- What the words hold once the additions of an iteration were made.
-use Rattle.std.proofs.Common.{◌≡◌, ℕ, zero, suc, ◌+◌, ◌*◌, ◌%◌, ◌^◌, ◌<◌, ◌≤◌, Bool, true, false}
+use Rattle.std.proofs.Common.{◌≡◌, ℕ, zero, suc, ◌+◌, ◌*◌, ◌%◌, ◌^◌, ◌<◌, Bool, true, false}
 use Rattle.std.proofs.Common.{cond, List}
-use Rattle.std.proofs.Common.{[], ◌∷◌, ◌++◌, length, get_or, refl, sym, ap, ◌∙◌, subst, arith}
+use Rattle.std.proofs.Common.{[], ◌∷◌, ◌++◌, get_or, refl, sym, ap, ◌∙◌, arith}
 use Rattle.std.specs.List.{All}
 use Rattle.bolt_base.specs.Graph.{vertices}
-use Rattle.bolt_base.specs.Residue.{Amount, sum_at}
+use Rattle.bolt_base.specs.Residue.{sum_at}
 use Rattle.bolt_base.proofs.ResidueLemmas.{sum_at-append}
 use Rattle.agg_words.specs.Known.{IsClear}
 use Rattle.agg_words.specs.View.{View, times}
@@ -14,7 +14,7 @@ use Rattle.run_model.specs.Additions.{adds_of, items, word}
 use Rattle.run_model.specs.Program.{lanes, is_sum}
 use Rattle.run_model.specs.Refined.{with_words, target_agg}
 use Rattle.run_model.specs.Rows.{gathered}
-use Rattle.run_model.specs.Steps.{Step, is_target, targets}
+use Rattle.run_model.specs.Steps.{Step, is_target}
 use Rattle.run_model.proofs.Within.{others_none}
 use Rattle.edge_map.specs.Additions.{task_gifts, task_adds, ends_of_gifts}
 use Rattle.edge_map.specs.Ready.{HasRoom}
@@ -25,7 +25,7 @@ use Rattle.edge_map.proofs.Gifts.{word_room}
 use Rattle.edge_map.proofs.Rising.{times_here, times_grow}
 use Rattle.edge_map.proofs.SameTasks.{adds_same, ends_same, targets_listed, target_there}
 use Rattle.sum_steps.specs.Laws.{IsSpread, SpreadLeavesTargets, TakenSumsAreNew, OthersKeep}
-use Rattle.sum_steps.specs.Taken.{AreLeft, HasWords}
+use Rattle.sum_steps.specs.Taken.{AreLeft}
 
 -- what stands in a list stands there at least once
 times_at : (xs : List ℕ) → All (λ x. 0 < times x xs) xs

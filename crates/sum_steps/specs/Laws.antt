@@ -1,5 +1,5 @@
 -- Laws of an iteration of a sum program.
-use Rattle.std.specs.Prelude.{◌≡◌, ℕ, ℤ, ◌+◌, ◌<◌, true, false, List, [], ◌++◌, take, length, All}
+use Rattle.std.specs.Prelude.{◌≡◌, ℕ, ℤ, ◌+◌, ◌<◌, true, false, List, ◌++◌, take, length, All}
 use Rattle.std.specs.Prelude.{slice_index_or}
 use Rattle.bolt_base.specs.Residue.{Amount}
 use Rattle.agg_words.specs.Known.{IsClear}

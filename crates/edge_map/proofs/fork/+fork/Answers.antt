@@ -1,5 +1,5 @@
 use Rattle.std.proofs.Common.{rules, arith, ◌≡◌, ◌∙◌, ℕ, ◌+◌, ◌-◌, ◌/◌, ◌<◌, ◌≤◌, ◌++◌, List}
-use Rattle.std.proofs.Common.{length, take, drop, sym, ap, subst, refl, length-append, ◌^◌}
+use Rattle.std.proofs.Common.{length, take, drop, sym, ap, subst, refl, length-append}
 use Rattle.std.specs.Prelude.{min}
 use Rattle.std.specs.List.{All}
 use Rattle.bolt_base.specs.Graph.{vertices}

@@ -1,4 +1,4 @@
-use Rattle.std.proofs.Common.{add-one, ◌≡◌, ◌<◌, ◌++◌, [], ◌∷◌, length, take, refl, ap, ◌∙◌}
+use Rattle.std.proofs.Common.{add-one, ◌++◌, [], ◌∷◌, take, refl, ap, ◌∙◌}
 use Rattle.std.proofs.Math.Seq.{take-suc-set}
 use Rattle.agg_words.specs.Facts.{SeatFacts}
 use Rattle.agg_words.specs.View.{with_mark, with_met}

@@ -1,4 +1,4 @@
-use Rattle.std.proofs.Common.{arith, ◌≡◌, ◌∙◌, ℕ, ◌+◌, ◌-◌, ◌<◌, ◌≤◌, ap, refl, sym}
+use Rattle.std.proofs.Common.{arith, ◌≡◌, ℕ, ◌+◌, ◌-◌, ◌<◌, ◌≤◌, ap, refl, sym}
 use Rattle.std.specs.List.{range_with_len, sum_by}
 use Rattle.edge_map.specs.Forks.{piece_room}
 use Rattle.edge_map.specs.declared.tasks.Plan.{Plan}

@@ -4,7 +4,7 @@ use Rattle.agg_words.specs.Facts.{SeatFacts}
 use Rattle.agg_words.specs.Known.{IsKnown}
 use Rattle.vertex_expr.specs.declared.program.ProgramEntries.{ProgramEntries}
 use Rattle.run_model.specs.Additions.{Gift}
-use Rattle.edge_map.specs.Additions.{visits_of, task_visits, task_gifts, adds_of_gifts}
+use Rattle.edge_map.specs.Additions.{task_gifts, adds_of_gifts}
 use Rattle.edge_map.specs.Additions.{ends_of_gifts}
 use Rattle.edge_map.specs.Forks.{part_adds, part_ends}
 use Rattle.edge_map.specs.Grew.{Grew}

@@ -1,9 +1,8 @@
-use Rattle.std.proofs.Common.{arith, ◌≡◌, ◌∙◌, ℕ, ◌+◌, ◌*◌, ◌≤◌, List, ◌∷◌, get_or, drop, ap, refl}
-use Rattle.std.proofs.Common.{sym, subst, drop-cons, add-one, suc}
+use Rattle.std.proofs.Common.{arith, ◌≡◌, ◌∙◌, ℕ, ◌+◌, List, ◌∷◌, get_or, drop, ap, refl}
+use Rattle.std.proofs.Common.{subst, drop-cons, add-one}
 use Rattle.std.proofs.lemmas.List.{drop_all}
 use Rattle.agg_words.specs.Facts.{SeatFacts}
-use Rattle.bolt_base.specs.Residue.{Amount}
-use Rattle.sum_steps.specs.Taken.{AreLeft, HasWords}
+use Rattle.sum_steps.specs.Taken.{AreLeft}
 use Rattle.sum_steps.proofs.taking.take_rest.Goals as goal
 
 pub loop-place-init : goal.loop-place-init

@@ -1,4 +1,4 @@
-use Rattle.std.proofs.Common.{◌≡◌, ◌≤◌, List, drop, length}
+use Rattle.std.proofs.Common.{◌≡◌, List, drop}
 use Rattle.bolt_base.specs.Residue.{Amount}
 use Rattle.sum_steps.specs.Taken.{AreLeft}
 use Rattle.sum_steps.proofs.taking.take_rest.Given as goal

@@ -1,13 +1,13 @@
 use Rattle.std.specs.List.{range_with_len}
 use Rattle.std.proofs.Math.ListN.{length-replicate}
 use Rattle.std.proofs.Common.{rules, arith, List, map, append-nil, ◌≡◌, ◌≢◌, ℕ, ℤ, pos, ◌+◌, ◌*◌}
-use Rattle.std.proofs.Common.{◌<◌, ◌≤◌, ◌^◌, ◌+ℤ◌, ◌++◌, length, sym, ap, ◌∙◌, subst, refl}
+use Rattle.std.proofs.Common.{◌<◌, ◌^◌, ◌+ℤ◌, ◌++◌, length, sym, ap, ◌∙◌, subst}
 use Rattle.std.proofs.Common.{FitsSigned, w64}
 use Rattle.std.specs.Int.{cast_signed, int_wrap}
 use Rattle.std.proofs.lemmas.Int.{wrapping_add_is}
 use Rattle.bolt_base.specs.Residue.{Amount, sum_at}
 use Rattle.agg_words.specs.Facts.{SeatFacts}
-use Rattle.agg_words.specs.View.{minus, with_taken}
+use Rattle.agg_words.specs.View.{minus}
 use Rattle.agg_words.specs.declared.layout.Layout.{Layout}
 use Rattle.run_model.specs.Additions.{word}
 use Rattle.run_model.specs.Program.{lanes, number}

@@ -1,4 +1,4 @@
-use Rattle.std.proofs.Common.{◌≡◌, ap, refl}
+use Rattle.std.proofs.Common.{ap}
 use Rattle.agg_words.specs.Facts.{SeatFacts}
 use Rattle.sum_steps.proofs.TakenWords.{clear_from_none}
 use Rattle.sum_steps.proofs.taking.wipe_marks.Goals as goal
