@@ -46,8 +46,7 @@ module _ (p : ProgramEntries) (g : Graph) (history : HistoryState) (stands : Sta
         (omega arith) (omega arith)))
         ∙ ap (λ (rows : List Row). length (get_or rows 0 [])) stands.rows
         ∙ ap length (get_or-map-range_with_len (entries p g) 0 (history.cut + 1) 0 0 []
-        (omega arith)
-        (omega arith))
+        (omega arith) (omega arith))
         ∙ entries_long p g 0
 
     pub old_entry : (i v : ℕ) → i ≤ history.cut → v < vertices g
