@@ -1,13 +1,12 @@
 -- A right log with one round more.
-use Rattle.std.proofs.Common.{◌≡◌, ℕ, ◌+◌, ◌<◌, ◌≤◌, List, [], ◌∷◌, ◌++◌, length, fold, take}
-use Rattle.std.proofs.Common.{refl, sym, ap, ◌∙◌, subst, arith, inl, inr, length-append}
-use Rattle.std.specs.List.{All}
+use Rattle.std.proofs.Common.{◌≡◌, ℕ, ◌≤◌, List, [], ◌∷◌, ◌++◌, length, fold}
+use Rattle.std.proofs.Common.{sym, ap, ◌∙◌, subst, arith, inl, inr, length-append}
 use Rattle.std.proofs.lemmas.Bool.{cases_lt}
 use Rattle.std.proofs.lemmas.List.{append-nil, take_all, take-append-le}
 use Rattle.std.proofs.lemmas.List.Concat.{flat_map-append}
 use Rattle.std.proofs.lemmas.List.Sums.{fold-append, fold_push}
 use Rattle.bolt_base.specs.Edits.{after, edited}
-use Rattle.run_model.specs.Logs.{Round, shown, with_changes, log_edits, IsRight}
+use Rattle.run_model.specs.Logs.{Round, with_changes, log_edits}
 use Rattle.run_model.specs.Rows.{Lists, answer}
 use Rattle.board.specs.declared.kinds.Origin.{Origin}
 use Rattle.board.specs.Log.{shows, GoesOn, IsRightLog, HasRoom, HasRoomFor}

@@ -1,7 +1,7 @@
 -- What keeps the rule over the published face.
-use Rattle.std.proofs.Common.{◌≡◌, ◌≢◌, ℕ, zero, suc, ◌+◌, ◌<◌, ◌≤◌, ◌⊎◌, take, length, arith, true}
+use Rattle.std.proofs.Common.{◌≡◌, ◌≢◌, ℕ, zero, suc, ◌≤◌, take, length, arith, true}
 use Rattle.std.proofs.Common.{true≢false, List, [], ◌∷◌, ◌++◌, set, refl, sym, ap, ◌∙◌, subst}
-use Rattle.std.proofs.Common.{⊎_elim, inl, inr}
+use Rattle.std.proofs.Common.{⊎_elim}
 use Rattle.std.specs.List.{All}
 use mathlib.Core.Option.{some}
 use lib.ListN.{get_elem?}
@@ -10,12 +10,11 @@ use Rattle.atomic_table.proofs.Lists.{at_set, at_snoc}
 use Rattle.bolt_base.specs.Edits.{after}
 use Rattle.bolt_base.specs.Graph.{Graph, vertices}
 use Rattle.vertex_expr.specs.declared.program.ProgramEntries.{ProgramEntries}
-use Rattle.run_model.specs.Logs.{Round, with_changes, log_edits}
+use Rattle.run_model.specs.Logs.{Round, log_edits}
 use Rattle.run_model.specs.Program.{lanes}
 use Rattle.run_model.specs.Rows.{Lists, answer}
 use Rattle.run_model.proofs.LogLemmas.{right_begins}
 use Rattle.run_model.proofs.RowLemmas.{values_whole}
-use Rattle.std.proofs.lemmas.List.{take_all}
 use Rattle.board.specs.declared.kinds.Mark.{Mark}
 use Rattle.board.specs.declared.kinds.Origin.{Origin}
 use Rattle.board.specs.declared.kinds.Sheet.{Sheet}
@@ -23,10 +22,7 @@ use Rattle.board.specs.declared.face.Face.{Face}
 use Rattle.board.specs.declared.face.Put.{Put}
 use Rattle.board.specs.declared.face.Change.TheVariants.{Put as Noted}
 use Rattle.board.specs.declared.query.Query.{Query}
-use Rattle.board.specs.declared.query.Query.TheVariants.{Value, Total, AtLeast, Prefix}
 use Rattle.board.specs.Log.{shows, round_of, rounds_of, origin_of, origin, IsRightLog, HasRoom}
-use Rattle.board.specs.Log.{GoesOn, HasRoomFor}
-use Rattle.board.specs.Marks.{mark_of}
 use Rattle.board.specs.Halls.{with_changes_in}
 use Rattle.board.specs.Queries.{HasLane}
 use Rattle.board.specs.Sheets.{sheet_of, changed, IsRight, IsNext}

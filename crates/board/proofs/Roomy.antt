@@ -1,6 +1,6 @@
 -- Places that take changes in.
-use Rattle.std.proofs.Common.{◌≡◌, ℕ, suc, ◌+◌, ◌<◌, ◌≤◌, ◌==◌, Bool, true, false, cond, ℤ, List}
-use Rattle.std.proofs.Common.{[], ◌∷◌, ◌++◌, length, fold, take, set, refl, sym, ap, ◌∙◌, subst}
+use Rattle.std.proofs.Common.{◌≡◌, ℕ, ◌+◌, ◌<◌, ◌≤◌, ◌==◌, true, false, cond, ℤ, List}
+use Rattle.std.proofs.Common.{[], ◌∷◌, ◌++◌, length, take, set, refl, sym, ap, ◌∙◌}
 use Rattle.std.proofs.Common.{arith, length-append, ◌&&◌}
 use Rattle.std.specs.Prelude.{nat_le}
 use Rattle.std.proofs.Math.Seq.{take-set-lt}
@@ -11,7 +11,7 @@ use Rattle.bolt_base.specs.declared.answer.AnswerChange.{AnswerChange}
 use Rattle.run_model.specs.Logs.{with_change, with_changes}
 use Rattle.run_model.specs.Rows.{Lists}
 use Rattle.run_model.proofs.Still.{is_le}
-use Rattle.board.specs.Halls.{Hall, with_change_in, with_changes_in}
+use Rattle.board.specs.Halls.{with_change_in, with_changes_in}
 
 -- ---- with room for all changes none is left out
 change_loses_none : (values : Lists) (c : AnswerChange)

@@ -1,6 +1,6 @@
 -- Sums of numbers of 64 bits.
 use Rattle.std.proofs.Common.{◌≡◌, ℕ, ℤ, pos, negsuc, ◌+ℤ◌, ◌≤ℤ◌, ◌+◌, ◌*◌, ◌^◌, ◌<◌, ◌≤◌, arith}
-use Rattle.std.proofs.Common.{FitsSigned, w64, to_z, of_z, List, [], length, take, get_or, ap, sym}
+use Rattle.std.proofs.Common.{FitsSigned, w64, to_z, of_z, [], length, take, get_or, ap, sym}
 use Rattle.std.proofs.Common.{◌∙◌}
 use Rattle.std.specs.Int.{w128}
 use Rattle.std.proofs.lemmas.Int.{ints, to_z-of_z}

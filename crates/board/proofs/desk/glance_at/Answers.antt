@@ -1,4 +1,4 @@
-use Rattle.std.proofs.Common.{◌≡◌, ◌∙◌, ap, sym, subst, length}
+use Rattle.std.proofs.Common.{◌∙◌, ap, sym, subst, length}
 use Rattle.std.specs.List.{All}
 use Rattle.run_model.specs.Rows.{Lists}
 use Rattle.board.specs.Queries.{HasLane, means}

@@ -1,4 +1,4 @@
-use Rattle.std.proofs.Common.{◌≡◌, ◌<◌, length}
+use Rattle.std.proofs.Common.{◌<◌}
 use Rattle.std.proofs.lemmas.List.{length-set}
 use Rattle.board.proofs.Roomy.{place_is_written}
 use Rattle.board.proofs.places.Places.put.Goals as goal
