@@ -90,8 +90,7 @@ fn read_tokens(alloc: Global, scope: &Scope, line: &[u8], from: usize) -> Result
 }
 
 /// The expression that stands in a line from a place on, and takes the line to its end.
-#[tactic(auto, unfolding(crate::specs::Expressions::expression,
-    crate::specs::Expressions::expression_at))]
+#[tactic(auto, unfolding(crate::specs::Expressions::expression, crate::specs::Expressions::expression_at))]
 pub fn read_expression(
     alloc: Global,
     scope: &Scope,
