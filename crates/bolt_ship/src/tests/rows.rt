@@ -27,21 +27,6 @@ const RANK2: &[u8] = b"\
     apply 0 clamp(150000 + agg[0] * 17 / 20, 0, 1000000000000)\n\
 ";
 
-const CLIP: &[u8] = b"\
-    program clip\n\
-    vertices 1000\n\
-    degree 1\n\
-    edges 1000\n\
-    weight -10 10\n\
-    attr 0 100\n\
-    rounds 2\n\
-    combine sum\n\
-    lane 0 0 100\n\
-    init 0 attr\n\
-    contribute 0 val[0]\n\
-    apply 0 min(agg[0], 6)\n\
-";
-
 // The greatest attribute from which a path of at most two edges leads to a vertex.
 const TOP: &[u8] = b"\
     program top\n\
@@ -111,97 +96,30 @@ fn has_row(
 }
 
 #[test]
-fn sums_are_as_worked_out(rt: HostRuntime) -> Result<(), Fail> {
-    let alloc = rt.alloc();
+fn a_sum_is_as_worked_out(rt: HostRuntime) -> Result<(), Fail> {
     let square = b"0 1\n1 2\n2 0\n0 2\n".as_slice();
-    let line = b"attr 0 5\nattr 1 7\nattr 2 7\nattr 3 7\nattr 4 7\n0 1\n1 2\n2 3\n3 4\n".as_slice();
-    let labels = b"attr 0 1\nattr 2 2\n0 1 3\n2 1 1\n0 0 5\n".as_slice();
-    let bounds = b"0 1 9223372036854775807\n1 0 -9223372036854775808\n".as_slice();
-    let rank = shipped("rank").unwrap_or(b"");
-    let labels2 = shipped("labels2").unwrap_or(b"");
-    let wide = shipped("wide").unwrap_or(b"");
-    for (program, graph, i, expected) in [
-        (RANK2, square, 0, [(0, ONE), (0, ONE), (0, ONE)].as_slice()),
-        (
-            RANK2,
-            square,
-            1,
-            [(ONE, ONE), (500_000, 575_000), (1_500_000, 1_425_000)].as_slice(),
-        ),
-        (
-            RANK2,
-            square,
-            2,
-            [
-                (1_425_000, 1_361_250),
-                (500_000, 575_000),
-                (1_075_000, 1_063_750),
-            ]
-            .as_slice(),
-        ),
-        (
-            rank,
-            b"0 1\n1 2\n2 0\n".as_slice(),
-            10,
-            [(ONE, ONE), (ONE, ONE), (ONE, ONE)].as_slice(),
-        ),
-        (
-            CLIP,
-            line,
-            1,
-            [(0, 0), (5, 5), (7, 6), (7, 6), (7, 6)].as_slice(),
-        ),
-        (
-            CLIP,
-            line,
-            2,
-            [(0, 0), (0, 0), (5, 5), (6, 6), (6, 6)].as_slice(),
-        ),
-        (
-            labels2,
-            labels,
-            10,
-            [
-                (5_000_000, ONE),
-                (0, 0),
-                (3_000_000, 750_000),
-                (ONE, 250_000),
-                (0, 0),
-                (0, ONE),
-            ]
-            .as_slice(),
-        ),
-        (
-            wide,
-            bounds,
-            2,
-            [(i64::MIN, i64::MIN), (i64::MAX, i64::MAX)].as_slice(),
-        ),
-    ] {
-        assert!(rt; has_row(alloc, program, graph, i, expected)?, "row {i}");
-    }
+    let expected = [
+        (1_425_000, 1_361_250),
+        (500_000, 575_000),
+        (1_075_000, 1_063_750),
+    ];
+    assert!(rt; has_row(rt.alloc(), RANK2, square, 2, &expected)?);
     Ok(())
 }
 
 #[test]
-fn extremes_are_as_worked_out(rt: HostRuntime) -> Result<(), Fail> {
-    let alloc = rt.alloc();
+fn a_minimum_is_as_worked_out(rt: HostRuntime) -> Result<(), Fail> {
     let dist = shipped("dist").unwrap_or(b"");
-    let longer = b"0 1 4\n0 2 1\n2 1 2\nattr 0 1\n".as_slice();
+    let graph = b"0 1 4\n0 2 1\n2 1 2\nattr 0 1\n".as_slice();
+    let expected = [(FAR, 0), (3, 3), (1, 1)];
+    assert!(rt; has_row(rt.alloc(), dist, graph, 16, &expected)?);
+    Ok(())
+}
+
+#[test]
+fn a_maximum_is_as_worked_out(rt: HostRuntime) -> Result<(), Fail> {
     let path = b"attr 0 -7\nattr 1 -9\nattr 2 -8\n0 1\n1 2\n".as_slice();
-    for (program, graph, i, expected) in [
-        (dist, longer, 1, [(FAR, 0), (4, 4), (1, 1)].as_slice()),
-        (dist, longer, 16, [(FAR, 0), (3, 3), (1, 1)].as_slice()),
-        (
-            dist,
-            b"attr 0 1\n0 1 4\n0 2 1\n".as_slice(),
-            16,
-            [(FAR, 0), (4, 4), (1, 1)].as_slice(),
-        ),
-        (TOP, path, 1, [(-50, -7), (-7, -7), (-9, -8)].as_slice()),
-        (TOP, path, 2, [(-50, -7), (-7, -7), (-7, -7)].as_slice()),
-    ] {
-        assert!(rt; has_row(alloc, program, graph, i, expected)?, "row {i}");
-    }
+    let expected = [(-50, -7), (-7, -7), (-7, -7)];
+    assert!(rt; has_row(rt.alloc(), TOP, path, 2, &expected)?);
     Ok(())
 }
