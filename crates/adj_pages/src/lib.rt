@@ -14,6 +14,3 @@ pub use pages::MOST_PAGES;
 
 /// The graph whose rows stand on pages. It has the calls, the traits and the contracts of `Graph`.
 pub type PagedGraph = RowGraph<PagedRow>;
-
-#[cfg(test)]
-mod tests;

@@ -1,5 +1,5 @@
 // A vertex's edges in one direction, in pages.
-ghost use Rattle.std.specs.Prelude.{◌≡◌, ◌<◌, Some, slice_get, IfOk};
+ghost use Rattle.std.specs.Prelude.{◌≡◌, ◌<◌, IfOk};
 ghost use Rattle.std.specs.FinMap as finite;
 ghost use Rattle.adjacency.specs.Merge.{IsPatch};
 ghost use Rattle.adjacency.specs.Patched.{merged_row};
@@ -30,7 +30,6 @@ pub struct PagedRow {
 }
 
 impl Model for PagedRow {
-    ghost use Rattle.std.specs.Ordering.{nat_cmp};
     ghost use Rattle.std.specs.Coded.{coded_ℕ, coded_ℤ};
     ghost use Rattle.std.specs.FinMap as finite;
     ghost use Rattle.adjacency.specs.Row.{RowMap};

@@ -71,7 +71,6 @@ pub struct Pages<P: Page> {
 }
 
 impl<P: Page> Model for Pages<P> {
-    ghost use Rattle.std.specs.Ordering.{nat_cmp};
     ghost use Rattle.std.specs.Coded.{coded_ℕ, coded_ℤ};
     ghost use Rattle.std.specs.FinMap as finite;
     ghost use Rattle.adjacency.specs.Row.{RowMap, row_map};

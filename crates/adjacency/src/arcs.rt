@@ -1,7 +1,7 @@
 // What a row of a graph can do, however it stores its arcs.
 ghost use Rattle.std.specs.Prelude.{◌≡◌, ◌<◌, Some, slice_get, IfOk};
 ghost use Rattle.std.specs.FinMap as finite;
-ghost use Rattle.adjacency.specs.Row.{RowMap, IsRow};
+ghost use Rattle.adjacency.specs.Row.{RowMap};
 ghost use Rattle.adjacency.specs.Merge.{IsPatch};
 ghost use Rattle.adjacency.specs.Patched.{merged_row};
 

@@ -1,5 +1,5 @@
 // Entries of one width, as flat numbers.
-ghost use Rattle.std.specs.Prelude.{◌≡◌, ◌↔◌, ℤ, pos, ◌+◌, ◌<◌, ◌≤◌, ◌^◌, ◌++◌, ◌∷◌, [], length};
+ghost use Rattle.std.specs.Prelude.{◌≡◌, ◌↔◌, pos, ◌+◌, ◌<◌, ◌≤◌, ◌^◌, ◌++◌, [], length};
 ghost use Rattle.std.specs.Prelude.{take, drop, slice_index_or, slice_set, IsTrue, IfOk, OnOk};
 ghost use Rattle.std.specs.Prelude.{OnErr};
 ghost use Rattle.bolt_base.specs.Keep.{rest_at, stored};

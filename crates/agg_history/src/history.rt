@@ -59,6 +59,13 @@ impl History {
         self.vertices
     }
 
+    /// The last kept iteration.
+    pub fn cut(&self) -> u32
+        ensures { result ≡ self.now.cut }
+    {
+        self.cut
+    }
+
     /// A lane of the aggregate of vertex `v` at iteration `i`, kept or pruned.
     pub fn agg(&self, i: u32, v: u32, lane: u32) -> i64
         requires iteration { i ≤ self.now.cut }

@@ -1,6 +1,6 @@
 // What a batch puts over a history.
 ghost use Rattle.std.specs.Prelude.{◌≡◌, ◌↔◌, IsTrue, ℕ, pos, false, ◌==◌, ◌+◌, ◌<◌, ◌≤◌, ◌^◌};
-ghost use Rattle.std.specs.Prelude.{◌++◌, ◌∷◌, [], length, map, replicate, slice_index_or, Some};
+ghost use Rattle.std.specs.Prelude.{[], length, map, replicate, slice_index_or, Some};
 ghost use Rattle.std.specs.Prelude.{None, IsSome, IfOk, OnOk, OnErr};
 ghost use Rattle.agg_history.specs.Puts.{IsPutMore, no_puts_for, round_at, put_at, with_put};
 ghost use Rattle.agg_history.specs.Puts.{laid_at};

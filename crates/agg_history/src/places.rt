@@ -1,5 +1,5 @@
 // Where the entries that were put stand.
-ghost use Rattle.std.specs.Prelude.{◌≡◌, ℕ, ◌+◌, ◌<◌, ◌≤◌, ◌^◌, ◌==◌, true, false, [], length};
+ghost use Rattle.std.specs.Prelude.{◌≡◌, ℕ, ◌+◌, ◌<◌, ◌≤◌, ◌==◌, true, false, [], length};
 ghost use Rattle.std.specs.Prelude.{replicate, slice_set, slice_index_or, IfOk, OnOk};
 ghost use Rattle.std.specs.List.{All, IsDistinct, list_any};
 ghost use Rattle.agg_history.specs.Places.{place_at};

@@ -1,7 +1,6 @@
 // What is put at one iteration.
 ghost use Rattle.std.specs.Prelude.{◌≡◌, pos, ◌+◌, ◌<◌, ◌≤◌, ◌^◌, ◌++◌, ◌∷◌, [], length, map};
 ghost use Rattle.std.specs.Prelude.{slice_index_or, OnOk, OnErr};
-ghost use Rattle.bolt_base.specs.Keep.{no_entry};
 ghost use Rattle.agg_history.specs.PutList.{put_in};
 ghost use Rattle.agg_history.specs.Entries.{with_entry};
 

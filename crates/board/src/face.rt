@@ -1,5 +1,4 @@
 // What is published, and what changes it.
-ghost use Rattle.std.specs.Prelude.{◌≡◌};
 
 use crate::book::Receipt;
 use crate::kinds::Sheet;

@@ -1,5 +1,5 @@
 // A number for each lane.
-ghost use Rattle.std.specs.Prelude.{◌≡◌, ℕ, ℤ, ◌<◌, ◌≤◌, length, slice_index_or, slice_set, pos};
+ghost use Rattle.std.specs.Prelude.{◌≡◌, ℤ, ◌<◌, ◌≤◌, length, slice_index_or, slice_set, pos};
 ghost use Rattle.std.specs.Prelude.{replicate, IsTrue, ◌↔◌};
 
 use std::marker::Model;

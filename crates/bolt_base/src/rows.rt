@@ -1,5 +1,5 @@
 // The rows of a run, as flat numbers.
-ghost use Rattle.std.specs.Prelude.{◌≡◌, ℕ, pos, ◌<◌, ◌≤◌, ◌^◌, ◌++◌, ◌∷◌, [], length};
+ghost use Rattle.std.specs.Prelude.{◌≡◌, pos, ◌<◌, ◌≤◌, ◌^◌, ◌++◌, ◌∷◌, [], length};
 ghost use Rattle.std.specs.Prelude.{slice_index_or, IfOk, OnOk, OnErr};
 ghost use Rattle.std.specs.List.{All, flat_map, zip};
 ghost use Rattle.bolt_base.specs.RowTable.{entry_at};

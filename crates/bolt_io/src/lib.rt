@@ -11,8 +11,6 @@ mod mem_sink;
 mod plan;
 mod shelf;
 mod sink;
-#[cfg(test)]
-mod tests;
 mod whole;
 
 pub use calm_shelf::CalmShelf;

@@ -5,8 +5,6 @@ mod command;
 mod lines;
 mod numbers;
 mod options;
-#[cfg(test)]
-mod tests;
 mod words;
 
 pub use command::{Command, MakeForm, ProgramWord, RunOptions, WordsRefusal};

@@ -1,6 +1,5 @@
 // Pieces beside each other.
-ghost use Rattle.std.specs.Prelude.{◌≡◌, ℕ, ◌+◌, ◌-◌, ◌*◌, ◌^◌, ◌<◌, ◌≤◌, length, take, drop, ◌++◌};
-ghost use Rattle.std.specs.Prelude.{List};
+ghost use Rattle.std.specs.Prelude.{◌≡◌, ◌+◌, ◌-◌, ◌^◌, ◌<◌, ◌≤◌, length, take, drop, ◌++◌};
 ghost use Rattle.std.specs.Thread.{IsSync};
 ghost use Rattle.edge_map.specs.Forks.{part_visits, part_room, part_adds, part_ends};
 ghost use Rattle.edge_map.specs.Grew.{Grew};

@@ -1,6 +1,6 @@
 // What one item adds.
 ghost use Rattle.std.specs.Prelude.{◌≡◌, ℕ, ◌+◌, ◌*◌, ◌^◌, ◌<◌, ◌≤◌, min, true, false, length};
-ghost use Rattle.std.specs.Prelude.{take, drop, List, [], ◌∷◌, ◌++◌, slice_index_or};
+ghost use Rattle.std.specs.Prelude.{take, drop, List, [], ◌∷◌, ◌++◌};
 ghost use Rattle.bolt_base.specs.Graph.{IsBetween, vertices};
 ghost use Rattle.bolt_base.specs.Residue.{Amount};
 ghost use Rattle.agg_words.specs.View.{View};

@@ -1,10 +1,10 @@
 // What is computed before the first addition.
-ghost use Rattle.std.specs.Prelude.{◌≡◌, ℕ, ◌+◌, ◌*◌, ◌^◌, ◌<◌, ◌≤◌, false, length, drop, IfOk};
+ghost use Rattle.std.specs.Prelude.{◌≡◌, ℕ, ◌+◌, ◌*◌, ◌^◌, ◌<◌, ◌≤◌, length, drop, IfOk};
 ghost use Rattle.std.specs.Prelude.{slice_index_or};
 ghost use Rattle.std.specs.List.{list_any};
 ghost use Rattle.vertex_expr.specs.Mentions.{mentions_weight};
 ghost use Rattle.edge_map.specs.Walks.{from_source};
-ghost use Rattle.edge_map.specs.Additions.{source_at, works, visits, visits_of};
+ghost use Rattle.edge_map.specs.Additions.{works, visits, visits_of};
 ghost use Rattle.range_check.specs.Breaks.{IsAccepted};
 ghost use Rattle.edge_map.specs.Plans.{AreSides, AreFit};
 ghost use Rattle.edge_map.specs.declared.tasks.Sides.{Sides};

@@ -1,5 +1,5 @@
 -- What a reader of batches stands for.
-use Rattle.std.specs.Prelude.{◌≡◌, ◌⊎◌, ℕ, ◌+◌, ◌≤◌, List, [], ◌∷◌, length, Option}
+use Rattle.std.specs.Prelude.{◌≡◌, ◌⊎◌, ℕ, ◌+◌, List, [], ◌∷◌, Option}
 use Rattle.std.specs.Option.{option_map}
 use Rattle.bolt_io.specs.Told.{Told}
 use Rattle.bolt_io.specs.declared.whole.TheConstants.{MOST_BYTES}

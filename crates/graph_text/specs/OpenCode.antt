@@ -1,6 +1,6 @@
 -- How a batch whose `commit` wasn't read yet is kept, line by line.
-use Rattle.std.specs.Prelude.{◌≡◌, ℕ, ◌≤◌, is_some, nat_lt, if◌then◌else◌, List, [], ◌∷◌, ◌++◌}
-use Rattle.std.specs.Prelude.{length, Option, Some, None, unwrap_or}
+use Rattle.std.specs.Prelude.{◌≡◌, ℕ, ◌≤◌, is_some, nat_lt, if◌then◌else◌, [], ◌∷◌, ◌++◌}
+use Rattle.std.specs.Prelude.{length, Some, None, unwrap_or}
 use Rattle.bolt_base.specs.declared.edge.Edit.{Edit}
 use Rattle.bolt_base.specs.declared.limits.LineCause.TheVariants.{Syntax, Size}
 use Rattle.graph_text.specs.declared.batch_reader.TheConstants.{MOST_EDITS}

@@ -1,12 +1,11 @@
 -- How far the lines of a graph text were read.
-use Rattle.std.specs.Prelude.{◌≡◌, ℕ, suc, ◌+◌, ◌-◌, ◌≤◌, List, length, take, Result, Option, IfErr}
+use Rattle.std.specs.Prelude.{◌≡◌, ℕ, suc, ◌+◌, ◌-◌, ◌≤◌, length, take, Option, IfErr}
 use Rattle.std.specs.Prelude.{IfSome}
 use Rattle.bolt_base.specs.declared.limits.Limits.{Limits}
 use Rattle.bolt_io.specs.declared.whole.TheConstants.{MOST_BYTES}
 use Rattle.bolt_io.specs.Told.{Told, left}
 use Rattle.text_lines.specs.Lines.{after_lines}
 use Rattle.text_lines.specs.Feed.{Feed, ahead, bytes_after, rest}
-use Rattle.graph_text.specs.declared.bad_line.BadLine.{BadLine}
 use Rattle.graph_text.specs.GraphText.{Draft, draft_after}
 
 -- the first line ahead ends in the bytes that were taken

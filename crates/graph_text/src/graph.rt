@@ -1,5 +1,5 @@
 // The graph reader.
-ghost use Rattle.std.specs.Prelude.{◌≡◌, ◌+◌, ◌<◌, ◌≤◌, ℕ, pos, Ok, Err, [], IfOk, IfErr, OnOk};
+ghost use Rattle.std.specs.Prelude.{◌≡◌, ◌+◌, ◌<◌, pos, Ok, Err, [], IfOk, IfErr, OnOk};
 ghost use Rattle.std.specs.Prelude.{IfSome, IsOk};
 ghost use Rattle.std.specs.Option.{option_map};
 ghost use Rattle.bolt_base.specs.Graph.{IsBetween, IsGood};

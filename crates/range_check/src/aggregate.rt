@@ -1,5 +1,5 @@
 // The intervals of aggregates.
-ghost use Rattle.std.specs.Prelude.{◌≡◌, ◌≤◌, ℤ, pos, true};
+ghost use Rattle.std.specs.Prelude.{◌≡◌, ◌≤◌, true};
 ghost use Rattle.vertex_expr.specs.ProgramBounds.{combined};
 ghost use Rattle.range_check.specs.Arith.{IsWord, aggregate_of, narrowed, sum_span};
 ghost use Rattle.range_check.specs.Breaks.{is_word};

@@ -1,9 +1,8 @@
 // Intervals and their arithmetic.
-ghost use Rattle.std.specs.Prelude.{◌≡◌, ◌≤◌, ◌≤ℤ◌, ◌*ℤ◌, ◌^◌, ℤ, pos, false, IfSome, IfNone};
+ghost use Rattle.std.specs.Prelude.{◌≡◌, ◌≤◌, ◌≤ℤ◌, ◌*ℤ◌, ◌^◌, ℤ, false, IfSome, IfNone};
 ghost use Rattle.vertex_expr.specs.Floor.{floor_div};
 ghost use Rattle.vertex_expr.specs.Span.{only, hull, holds_zero, least_span, greatest_span, joined};
-ghost use Rattle.vertex_expr.specs.Span.{IsSmall};
-ghost use Rattle.range_check.specs.Arith.{AreSmall, IsProper, aggregate_of, narrowed, span};
+ghost use Rattle.range_check.specs.Arith.{AreSmall, IsProper, narrowed, span};
 ghost use Rattle.range_check.specs.Arith.{clamp_span, minus_span, over_span, plus_span, times_span};
 ghost use Rattle.range_check.specs.Breaks.{is_within, is_word};
 

@@ -10,8 +10,6 @@ mod lanes;
 mod laws;
 mod refusal;
 mod scope;
-#[cfg(test)]
-mod tests;
 mod walk;
 
 pub use accepted::{Accepted, bounds};

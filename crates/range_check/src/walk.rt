@@ -1,5 +1,5 @@
 // The nodes of an expression, one after the other.
-ghost use Rattle.std.specs.Prelude.{◌≡◌, ◌≤◌, ◌<◌, ◌+◌, false};
+ghost use Rattle.std.specs.Prelude.{◌≡◌, ◌≤◌, ◌<◌, ◌+◌};
 ghost use Rattle.std.specs.Option.{option_or};
 ghost use Rattle.vertex_expr.specs.Node.{tree_of};
 ghost use Rattle.vertex_expr.specs.Tree.{nodes};

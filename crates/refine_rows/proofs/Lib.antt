@@ -1,6 +1,6 @@
 mod MergeLemmas
-mod PickLemmas
-mod ReadLemmas
-mod PutLemmas
+pub mod PickLemmas
+pub mod ReadLemmas
+pub mod PutLemmas
 mod MentionLemmas
-mod AgainLemmas
+pub mod AgainLemmas

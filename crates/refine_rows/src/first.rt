@@ -1,5 +1,5 @@
 // Iteration 0.
-ghost use Rattle.std.specs.Prelude.{◌≡◌, ◌<◌, ◌≤◌, length, slice_get, Some, [], OnOk, OnErr};
+ghost use Rattle.std.specs.Prelude.{◌≡◌, ◌<◌, length, slice_get, Some, [], OnOk, OnErr};
 ghost use Rattle.std.specs.Prelude.{◌+◌, ◌++◌, ◌∷◌};
 ghost use Rattle.refine_rows.specs.Over.{AreOver, IsChangeOver};
 ghost use Rattle.refine_rows.specs.Progress.{again, vertices_put, IsRefinedTo, IsRefinedWithin};

@@ -1,5 +1,5 @@
 // Lists of vertices that rise, merged.
-ghost use Rattle.std.specs.Prelude.{◌≡◌, ◌+◌, ◌^◌, ◌<◌, length, IfOk};
+ghost use Rattle.std.specs.Prelude.{◌+◌, ◌<◌, IfOk};
 ghost use Rattle.refine_rows.specs.Picked.{AreMerged};
 
 use bolt_base::Memory;

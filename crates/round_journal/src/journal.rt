@@ -1,7 +1,7 @@
 // Entered batches, in the order in which they were entered, and what became of them.
 ghost use Rattle.std.specs.Prelude.{◌≡◌, ◌↔◌, ◌+◌, ◌-◌, ◌<◌, ◌≤◌, ◌⊎◌, [], ◌++◌, length, replicate};
-ghost use Rattle.std.specs.Prelude.{slice_get, slice_set, take, true, false, Some, None, Err};
-ghost use Rattle.std.specs.Prelude.{IfOk, OnOk, OnErr, IfSome, IfNone, IsTrue, MatchResult, IfErr};
+ghost use Rattle.std.specs.Prelude.{slice_set, true, false, Some, None, Err};
+ghost use Rattle.std.specs.Prelude.{IfOk, OnErr, IfSome, IfNone, IsTrue, MatchResult};
 ghost use Rattle.std.specs.Option.{option_copied, option_map};
 ghost use Rattle.std.specs.List.{All};
 ghost use Rattle.bolt_base.specs.Graph.{Graph};

@@ -10,6 +10,3 @@ pub use door::Door;
 pub use entry::JournalEntry;
 pub use journal::{EnterError, Journal, MOST_ORIGINS, MOST_PENDING};
 pub use outcome::Outcome;
-
-#[cfg(test)]
-mod tests;

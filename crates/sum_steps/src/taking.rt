@@ -1,11 +1,10 @@
 // Taking what the words hold for targets.
-ghost use Rattle.std.specs.Prelude.{◌≡◌, ◌≢◌, ℕ, ◌+◌, ◌*◌, ◌<◌, ◌≤◌, All, List, [], ◌∷◌, ◌++◌};
+ghost use Rattle.std.specs.Prelude.{◌≡◌, ℕ, ◌+◌, ◌*◌, ◌<◌, ◌≤◌, All, List, [], ◌∷◌, ◌++◌};
 ghost use Rattle.std.specs.Prelude.{drop, length};
-ghost use Rattle.bolt_base.specs.Residue.{Amount, sum_at};
+ghost use Rattle.bolt_base.specs.Residue.{Amount};
 ghost use Rattle.agg_words.specs.Known.{IsClear};
 ghost use Rattle.agg_words.specs.View.{times};
 ghost use Rattle.vertex_expr.specs.declared.program.ProgramEntries.{ProgramEntries};
-ghost use Rattle.run_model.specs.Additions.{word};
 ghost use Rattle.run_model.specs.Program.{lanes};
 ghost use Rattle.run_model.specs.Refined.{with_words};
 ghost use Rattle.sum_steps.specs.Taken.{AreLeft, HasWords, IsTaken, takes_at};

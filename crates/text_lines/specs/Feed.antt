@@ -1,5 +1,5 @@
 -- What a feed of lines stands for.
-use Rattle.std.specs.Prelude.{◌≡◌, ◌⊎◌, ℕ, ◌+◌, ◌-◌, ◌<◌, ◌≤◌, false, List, [], ◌∷◌, ◌++◌, length}
+use Rattle.std.specs.Prelude.{◌≡◌, ◌⊎◌, ℕ, ◌+◌, ◌-◌, ◌<◌, ◌≤◌, false, List, [], ◌++◌, length}
 use Rattle.std.specs.Prelude.{take, drop, slice_index, Option, IfSome}
 use Rattle.std.specs.Option.{option_map}
 use Rattle.std.specs.List.{All}

@@ -1,6 +1,6 @@
 // A feed of lines over a slot of a shelf.
 ghost use Rattle.std.specs.Prelude.{◌≡◌, ℕ, ◌+◌, ◌-◌, ◌<◌, ◌≤◌, suc, [], ◌∷◌, ◌++◌, List, Option};
-ghost use Rattle.std.specs.Prelude.{Some, None, Err, length, take, drop, slice_range, IfOk, IfErr};
+ghost use Rattle.std.specs.Prelude.{Some, None, Err, length, take, slice_range, IfOk, IfErr};
 ghost use Rattle.std.specs.Prelude.{OnOk, OnErr, IsOk, IfSome, IfNone, MatchOption, vec_len};
 ghost use Rattle.std.specs.Option.{option_map};
 ghost use Rattle.std.specs.Result.{result_err};

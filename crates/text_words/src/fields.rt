@@ -1,5 +1,5 @@
 //! The fields of a line, from left to right.
-ghost use Rattle.std.specs.Prelude.{◌≡◌, ◌+◌, ◌≤◌, ◌<◌, ◌^◌, length, IfOk, pos, ℤ};
+ghost use Rattle.std.specs.Prelude.{◌≡◌, ◌+◌, ◌≤◌, ◌<◌, ◌^◌, length, IfOk};
 ghost use Rattle.std.specs.List.{prefix_len, list_all};
 ghost use Rattle.vertex_expr.specs.Names.{is_name_byte as is_name, is_name as is_name_word};
 ghost use Rattle.lexical.specs.Seen.{word_of};

@@ -1,5 +1,5 @@
 // The value of an expression.
-ghost use Rattle.std.specs.Prelude.{◌≡◌, ◌≢◌, ◌<◌, ℤ, pos, length, slice_index_or};
+ghost use Rattle.std.specs.Prelude.{◌≡◌, ◌≢◌, ◌<◌, pos, length, slice_index_or};
 ghost use Rattle.vertex_expr.specs.Fit.{IsFit};
 ghost use Rattle.vertex_expr.specs.Floor.{floor_div};
 ghost use Rattle.vertex_expr.specs.Meaning.{ev, holds};

@@ -1,5 +1,5 @@
 // The canonical text of a program.
-ghost use Rattle.std.specs.Prelude.{◌≡◌, ◌≤◌, ◌++◌, ◌∷◌, [], length, map, All, codes, IfOk, OnOk};
+ghost use Rattle.std.specs.Prelude.{◌≡◌, ◌≤◌, ◌++◌, ◌∷◌, [], length, map, All, IfOk, OnOk};
 ghost use Rattle.std.specs.Prelude.{Ok};
 ghost use Rattle.vertex_expr.specs.Node.{tree_of};
 ghost use Rattle.vertex_expr.specs.Writable.{names_of, IsWritable};

@@ -9,8 +9,6 @@ mod keywords;
 mod lines;
 mod lists;
 mod ranges;
-#[cfg(test)]
-mod tests;
 mod text;
 
 pub use canonical::print;

@@ -1,5 +1,5 @@
 // The lines of a canonical text.
-ghost use Rattle.std.specs.Prelude.{◌≡◌, ◌++◌, ◌∷◌, [], codes, decimal, length, OnOk};
+ghost use Rattle.std.specs.Prelude.{◌≡◌, ◌++◌, ◌∷◌, [], decimal, length, OnOk};
 ghost use Rattle.std.specs.Fmt.{signed_decimal};
 ghost use Rattle.vertex_expr.specs.Node.{tree_of};
 ghost use Rattle.vertex_expr.specs.Writable.{names_of};

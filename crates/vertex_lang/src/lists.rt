@@ -1,5 +1,5 @@
 // What an entry says behind its word, of those that stand more than once.
-ghost use Rattle.std.specs.Prelude.{◌≡◌, ◌≤◌, ◌<◌, ◌^◌, length, IfOk};
+ghost use Rattle.std.specs.Prelude.{◌≤◌, ◌<◌, ◌^◌, length, IfOk};
 ghost use Rattle.text_words.specs.Says.{Says};
 ghost use Rattle.text_words.specs.declared.error.Keyword.TheVariants.{Param as ParamWord};
 ghost use Rattle.text_words.specs.declared.error.Keyword.TheVariants.{Lane as LaneWord};

@@ -1,5 +1,5 @@
 // The fields of entries that are numbers.
-ghost use Rattle.std.specs.Prelude.{◌≡◌, ◌≤◌, ◌<◌, ◌^◌, length, IfOk};
+ghost use Rattle.std.specs.Prelude.{◌≤◌, ◌<◌, ◌^◌, length, IfOk};
 ghost use Rattle.text_words.specs.Says.{SaysAlways};
 ghost use Rattle.vertex_lang.specs.Entries.{range_at as range_of_line};
 ghost use Rattle.vertex_lang.specs.Entries.{combine_at as combine_of_line};

@@ -1,3 +1,4 @@
 pub mod Pulls
 pub mod Adding
 pub mod Applying
+pub mod Rounds

@@ -2,7 +2,7 @@
 ghost use Rattle.std.specs.Prelude.{◌≡◌, ◌<◌};
 ghost use Rattle.bolt_base.specs.Graph.{vertices};
 ghost use Rattle.run_model.specs.Program.{by_lane};
-ghost use Rattle.run_model.specs.Rows.{at, contribution, contribute_env};
+ghost use Rattle.run_model.specs.Rows.{contribution, contribute_env};
 ghost use Rattle.run_model.specs.Evaluable.{AreEvaluable};
 ghost use Rattle.run_model.specs.Given.{AreGiven, IsBefore, IsEdge, edge_gives, source_gives};
 

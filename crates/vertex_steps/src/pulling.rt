@@ -1,5 +1,5 @@
 // An aggregate, by reading the edges into a vertex.
-ghost use Rattle.std.specs.Prelude.{◌≡◌, ◌<◌, ◌+◌, ◌^◌, ℕ};
+ghost use Rattle.std.specs.Prelude.{◌≡◌, ◌<◌, ◌+◌, ◌^◌};
 ghost use Rattle.bolt_base.specs.Graph.{vertices, indeg};
 ghost use Rattle.run_model.specs.Rows.{gathered};
 ghost use Rattle.run_model.specs.Given.{AreGiven, IsBefore};

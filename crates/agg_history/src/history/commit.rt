@@ -1,5 +1,5 @@
 // The commit of an overlay.
-ghost use Rattle.std.specs.Prelude.{◌≡◌, ◌<◌, ◌≤◌, map, length, None};
+ghost use Rattle.std.specs.Prelude.{◌≡◌, length, None};
 ghost use Rattle.std.specs.List.{zip};
 ghost use Rattle.swaps.specs.Swaps.{put_all, AreInside, places};
 ghost use Rattle.agg_history.specs.Pruned.{rows_of, pruned};

@@ -1,6 +1,5 @@
 // The entries of a vertex with an overlay over them.
-ghost use Rattle.std.specs.Prelude.{◌≡◌, ◌+◌, ◌<◌, ◌≤◌, ◌^◌, ◌++◌, ◌∷◌, [], length, IsSome, OnOk};
-ghost use Rattle.std.specs.Prelude.{ℕ};
+ghost use Rattle.std.specs.Prelude.{◌≡◌, ◌+◌, ◌<◌, ◌≤◌, ◌^◌, length, IsSome, OnOk};
 ghost use Rattle.bolt_base.specs.Keep.{column};
 ghost use Rattle.bolt_base.specs.RowTable.{entry_at};
 ghost use Rattle.agg_history.specs.Puts.{put_at, laid_at};

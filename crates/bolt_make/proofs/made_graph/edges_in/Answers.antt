@@ -14,4 +14,5 @@ returns-clause-apart c =
     let all : map edge c.args.weights.now.entries ≡ c.loop-src.edges =
     sym c.loop-src.invariant ∙ ap (λ es. c.loop-src.edges ++ map edge es) done
     ∙ append-nil c.loop-src.edges in
-    subst AreApart all (sorted_edges_apart c.args.weights.now.entries c.iter-entries.ensures.ordered)
+    subst AreApart all
+    (sorted_edges_apart c.args.weights.now.entries c.iter-entries.ensures.ordered)

@@ -6,7 +6,7 @@ use Rattle.run_model.specs.Rows.{row, aggr}
 use Rattle.run_model.proofs.Runs.{vals_long, vals_lanes, next_row, next_aggr, aggs_long, aggs_lanes}
 use Rattle.run_model.proofs.Runs.{table_next, length-rows_to}
 use Rattle.sync_engine.proofs.Counts.{more_rounds}
-use Rattle.sync_engine.proofs.Rounds.{before_at}
+use Rattle.vertex_steps.proofs.Rounds.{before_at}
 use Rattle.sync_engine.proofs.run.kept_rows.Goals as goal
 
 pub iterate-requires-clause-before : goal.iterate-requires-clause-before

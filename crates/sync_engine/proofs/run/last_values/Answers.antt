@@ -4,7 +4,7 @@ use Rattle.vertex_expr.specs.declared.program.ProgramEntries.{ProgramEntries}
 use Rattle.run_model.specs.Rows.{row}
 use Rattle.run_model.proofs.Runs.{next_row}
 use Rattle.sync_engine.proofs.Counts.{more_rounds}
-use Rattle.sync_engine.proofs.Rounds.{before_at}
+use Rattle.vertex_steps.proofs.Rounds.{before_at}
 use Rattle.sync_engine.proofs.run.last_values.Goals as goal
 
 pub iterate-requires-clause-before : goal.iterate-requires-clause-before

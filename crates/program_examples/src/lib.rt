@@ -1,0 +1,15 @@
+//! Examples of programs: their texts, what the range check says of them, and a run. The rows show that the
+//! definitions say what is meant. They stand apart from the crates that they call, since a crate
+//! with tests is proved twice.
+#![tactic(auto)]
+
+#[cfg(test)]
+mod ranges;
+#[cfg(test)]
+mod rank;
+#[cfg(test)]
+mod runs;
+#[cfg(test)]
+mod samples;
+#[cfg(test)]
+mod texts;

@@ -1,0 +1,4 @@
+mod TargetWalk
+mod NewRows
+mod PullLemmas
+mod VisitSums

@@ -1,0 +1,4 @@
+pub mod SearchLemmas
+pub mod TakingLemmas
+pub mod SourceLemmas
+pub mod TaskLemmas

@@ -1,0 +1,6 @@
+mod NetLemmas
+mod HistoryLemmas
+mod EngineLemmas
+mod PreparedLemmas
+mod ChangeLemmas
+mod PartLemmas
