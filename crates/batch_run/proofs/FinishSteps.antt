@@ -199,7 +199,7 @@ module _ {T S : Type 0} (state : T → S) (taken : T → ℕ) (steps : Steps S) 
       (r : Result ℕ Stop) → Reads before IsRun m p told mid i j
       (let x : Result (Opened T) Stop = Ok opened in x)
       → IfSome told (λ t. course state steps stream opened ≡ op (content t))
-      → ((s : ℕ) → q s ≡ p opened + stream_slots s)
+      → ((s : ℕ) → EndsWith opened s → q s ≡ p opened + stream_slots s)
       → Conducts (λ _. course state steps stream opened) (λ _. []) 1 stream_slots
       (world_of mid j f a g) new r → IsReady taken opened → IfOk r (EndsWith opened)
       → Conducts op before (m + 1) q (world_of told i f a g) new r
@@ -217,7 +217,7 @@ module _ {T S : Type 0} (state : T → S) (taken : T → ℕ) (steps : Steps S) 
     reads =
         Reads-then before (λ c. before c ++ stream_of (op c) c) IsRun IsMade m 1 p stream_slots q
         told (λ c. stream_of (course state steps stream opened) c) mid new.told i j new.opened
-        opened r first (made_of r opened ready ends) (sums_of r) later.reads
+        opened r first (made_of r opened ready ends) (sums_of r ends) later.reads
         (told_map (λ t. course state steps stream opened ≡ op (content t))
         (λ t. before (content t) ++ stream_of (op (content t)) (content t)
         ≡ before (content t) ++ stream_of (course state steps stream opened) (content t)) told
@@ -238,9 +238,10 @@ module _ {T S : Type 0} (state : T → S) (taken : T → ℕ) (steps : Steps S) 
           not_made (inl none) = omega (arith, ready, ends, none)
           not_made (inr one) = omega (arith, ready, ends, one)
 
-      sums_of : (r : Result ℕ Stop) → IfOk r (λ s. q s ≡ p opened + stream_slots s)
-      sums_of (Ok s) = sums s
-      sums_of (Err e) = tt
+      sums_of : (r : Result ℕ Stop) → IfOk r (EndsWith opened)
+          → IfOk r (λ s. q s ≡ p opened + stream_slots s)
+      sums_of (Ok s) ends = sums s ends
+      sums_of (Err e) ends = tt
 
       begun-then : (o mid : Option Told) (ss ts : List Slot) → mid ≡ option_map (with_slots ss) o
           → IfSome o (λ t. Follows (content t) (before (content t)) IsRun ss

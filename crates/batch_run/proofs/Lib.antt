@@ -1,3 +1,4 @@
 pub mod BatchSteps
 pub mod StreamSteps
 pub mod FinishSteps
+pub mod ReplySteps

@@ -1,11 +1,10 @@
 -- How far a run has come in writing its reply.
-use Rattle.std.specs.Prelude.{◌≡◌, ◌⊎◌, ℕ, ◌+◌, ◌-◌, ◌≤◌, List, [], ◌∷◌, ◌++◌, length, take, Option}
+use Rattle.std.specs.Prelude.{◌≡◌, ◌⊎◌, ℕ, ◌+◌, ◌-◌, ◌≤◌, List, ◌++◌, length, take, Option}
 use Rattle.std.specs.Prelude.{Result, IfSome, IsErrOf}
 use Rattle.std.specs.Option.{option_map}
-use Rattle.bolt_io.specs.Told.{Told, left}
+use Rattle.bolt_io.specs.Told.{Told}
 use Rattle.bolt_io.specs.Written.{Wrote}
 use Rattle.text_lines.specs.Feed.{Feed, Advances, readable}
-use Rattle.graph_text.specs.declared.batch_text.BatchText.{BatchText}
 use Rattle.graph_text.specs.StreamText.{batches}
 use Rattle.graph_text.specs.BatchCode.{batches_ahead, batches_within}
 use Rattle.batch_steps.specs.declared.reply.Reply.{Reply}

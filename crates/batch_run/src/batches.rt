@@ -5,6 +5,7 @@ ghost use Rattle.std.specs.Prelude.{IfErr, IfSome, IfNone, IsErrOf};
 ghost use Rattle.std.specs.Option.{option_map};
 ghost use Rattle.bolt_io.specs.Written.{Wrote, WrotePart};
 ghost use Rattle.text_lines.specs.Feed.{Advances, IsAtEnd};
+ghost use Rattle.graph_text.specs.declared.batch_reader.TheConstants.{MOST_EDITS};
 ghost use Rattle.graph_text.specs.BatchCode.{batches_ahead, NoBatchEnds, IsFirstEnded};
 ghost use Rattle.command_files.specs.Replied.{Appended, Leads};
 ghost use Rattle.command_files.specs.Stops.{BlamesShelf, BlamesSink, IsOfReading, IsOfWriting};
@@ -16,8 +17,11 @@ use command_files::{Stop, put};
 use graph_text::{BatchReader, BatchText};
 use std::alloc::Global;
 
-// The next batch, or nothing at the end of the stream.
-fn next_batch<S: Shelf>(reader: &mut BatchReader, shelf: &mut S) -> Result<Option<BatchText>, Stop>
+/// The next batch, or nothing at the end of the stream.
+pub fn next_batch<S: Shelf>(
+    reader: &mut BatchReader,
+    shelf: &mut S,
+) -> Result<Option<BatchText>, Stop>
     requires slot { reader.old.feed.slot < S.opened shelf.old }
     ensures batch { IfOk result (λ r. IfSome r
         (λ b. batches_ahead (S.told shelf.old) reader.old.feed
@@ -31,6 +35,7 @@ fn next_batch<S: Shelf>(reader: &mut BatchReader, shelf: &mut S) -> Result<Optio
     ensures unended { IsReadStop result →
         IfSome (S.told shelf.old) (NoBatchEnds reader.new.feed.taken reader.old.feed) }
     ensures paired { IfOk result (λ r. IfSome r (λ b. length b.lines ≡ length b.edits)) }
+    ensures small { IfOk result (λ r. IfSome r (λ b. length b.edits ≤ MOST_EDITS)) }
     ensures one_more { IfOk result (λ r. IfSome r (λ _. reader.new.batches
         ≡ reader.old.batches + 1)) }
     ensures most_batches { reader.new.batches ≤ MOST_BYTES }
@@ -56,6 +61,7 @@ fn put_batch<K: Sink, B: BatchRun>(
     out: &mut K,
 ) -> Result<(), Stop>
     requires paired { length batch.now.lines ≡ length batch.now.edits }
+    requires small { length batch.now.edits ≤ MOST_EDITS }
     requires few { B.taken run.old < 2 ^ 41 }
     ensures all { OnOk result (Wrote (K.written out.old) (K.written out.new)
         ((B.steps).text (B.state run.old) batch.now)) }

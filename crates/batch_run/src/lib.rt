@@ -5,5 +5,6 @@ mod batches;
 mod finish;
 mod stream;
 
+pub use batches::next_batch;
 pub use finish::{Opened, finish_opened, refuse};
 pub use stream::run_stream;

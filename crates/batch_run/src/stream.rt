@@ -1,6 +1,6 @@
 // Runs over the stream of a file.
 ghost use Rattle.bolt_io.specs.declared.whole.TheConstants.{MOST_BYTES};
-ghost use Rattle.std.specs.Prelude.{◌≡◌, ◌+◌, ◌<◌, ◌≤◌, ◌^◌, Ok, [], length, IfOk, OnOk, IfErr};
+ghost use Rattle.std.specs.Prelude.{◌≡◌, ◌<◌, ◌≤◌, ◌^◌, Ok, [], length, IfOk, OnOk, IfErr};
 ghost use Rattle.std.specs.Prelude.{IfSome, IsErrOf};
 ghost use Rattle.bolt_io.specs.Told.{left};
 ghost use Rattle.batch_steps.specs.Steps.{IsMade, stream_slots};

@@ -1,5 +1,6 @@
 // A run over batches.
-ghost use Rattle.std.specs.Prelude.{◌≡◌, ℕ, ◌+◌, ◌<◌, ◌^◌, length, IfOk, OnOk};
+ghost use Rattle.std.specs.Prelude.{◌≡◌, ℕ, ◌+◌, ◌<◌, ◌≤◌, ◌^◌, length, IfOk, OnOk};
+ghost use Rattle.graph_text.specs.declared.batch_reader.TheConstants.{MOST_EDITS};
 ghost use Rattle.batch_steps.specs.Steps.{Steps, IsMade};
 
 use crate::reply::Reply;
@@ -25,6 +26,7 @@ pub trait BatchRun: Drop {
     /// Takes the next batch, and answers what is written of it.
     fn take(&mut self, alloc: Global, batch: &BatchText) -> Result<Bytes, Memory>
         requires paired { length batch.now.lines ≡ length batch.now.edits }
+        requires small { length batch.now.edits ≤ MOST_EDITS }
         requires few { taken self.old < 2 ^ 41 }
         ensures text { IfOk result (λ text. text ≡ steps.text (state self.old) batch.now) }
         ensures next { OnOk result (state self.new ≡ steps.next (state self.old) batch.now) }

@@ -1,29 +1,34 @@
 -- How a command's result is its status.
-use Rattle.std.specs.Prelude.{◌≡◌, ◌≢◌, ◌⊎◌, ℕ, ◌+◌, ◌≤◌, List, ◌++◌, [], ◌∷◌, length, take, drop}
-use Rattle.std.specs.Prelude.{Option, Some, None, Result, Ok, Err, IfSome, IfOk}
-use Rattle.std.proofs.Common.{refl, sym, ap, subst, arith, inl, inr}
+use Rattle.std.specs.Prelude.{◌≡◌, ◌≢◌, ◌⊎◌, ℕ, ◌≤◌, List, ◌++◌, [], ◌∷◌, length, take, drop}
+use Rattle.std.specs.Prelude.{Option, Some, None, Result, Ok, Err, IfOk}
+use Rattle.std.proofs.Common.{refl, ap, arith, inl, inr}
 use Rattle.bolt_io.specs.Faults.{Rose}
 use Rattle.bolt_io.specs.Told.{Told}
 use Rattle.bolt_io.specs.Written.{Wrote, WrotePart}
 use Rattle.bolt_io.specs.declared.files.Slot.{Slot}
 use Rattle.batch_steps.specs.declared.reply.Reply.{Reply}
 use Rattle.batch_steps.specs.Steps.{IsMade}
-use Rattle.batch_steps.specs.Course.{Opening, stream_of}
+use Rattle.batch_steps.specs.Course.{Opening}
 use Rattle.batch_steps.specs.Ended.{ended_batches}
 use Rattle.batch_steps.specs.Files.{Content}
 use Rattle.command_files.specs.declared.stop.Stop.{Stop}
 use Rattle.command_files.specs.declared.stop.Stop.TheVariants.{ShelfFailed, SinkFailed, Memory}
 use Rattle.command_files.specs.declared.stop.Stop.TheVariants.{TooLong}
 use Rattle.command_files.specs.Files.{content, AreFirst, AreRead, MeetsLong}
-use Rattle.command_files.specs.Reads.{Follows, Reads}
-use Rattle.command_files.specs.Replied.{Gives, Replied, Leads}
+use Rattle.command_files.specs.Reads.{Follows}
+use Rattle.command_files.specs.Replied.{Gives, Leads}
 use Rattle.command_files.specs.Stops.{ShelfCause, SinkCause, status_of}
 use Rattle.command_files.proofs.ReadSteps.{told_all, told_map}
 use Rattle.batch_run.specs.Ahead.{IsReadStop}
 use Rattle.batch_run.specs.Conducts.{World, Each, Begun, Conducts}
-use Rattle.command_text.specs.Still.{opening, files_before, files_read, still, named, opened_with}
-use Rattle.command_text.specs.Still.{IsDecided, IsDecided_by}
-use Rattle.output_text.specs.Words.{wrong_at}
+use Rattle.cli_words.specs.Lines.{command_of}
+use Rattle.cli_words.specs.declared.command.Command.{Command}
+use Rattle.cli_words.specs.declared.command.Command.TheVariants as command
+use Rattle.cli_words.specs.declared.command.MakeForm.{MakeForm}
+use Rattle.cli_words.specs.declared.command.MakeForm.TheVariants as form
+use Rattle.cli_words.specs.declared.command.WordsRefusal.{WordsRefusal}
+use Rattle.command_course.specs.Still.{course, files_before, files_read, still, named, opened_with}
+use Rattle.command_course.specs.Still.{IsDecided, IsDecidedBy, IsDecidedOf, IsMakeDecided}
 use Rattle.bolt_cli.specs.Answers.{IsOwn, IsEarly, OfStream, Answers}
 
 is_early : (e : Stop) → IsEarly (status_of e)
@@ -38,17 +43,15 @@ stop_status_least SinkFailed = omega arith
 stop_status_least Memory = omega arith
 stop_status_least TooLong = omega arith
 
-not_decided : (n : ℕ) → 5 ≤ n → IsOwn n → ⊥
-not_decided n h (inl is) = omega (arith, h, is)
-not_decided n h (inr (inl is)) = omega (arith, h, is)
-not_decided n h (inr (inr (inl is))) = omega (arith, h, is)
-not_decided n h (inr (inr (inr is))) = omega (arith, h, is)
-
 own_below : (n : ℕ) → IsOwn n → n ≤ 4
 own_below n (inl is) = omega (arith, is)
 own_below n (inr (inl is)) = omega (arith, is)
 own_below n (inr (inr (inl is))) = omega (arith, is)
-own_below n (inr (inr (inr is))) = omega (arith, is)
+own_below n (inr (inr (inr (inl is)))) = omega (arith, is)
+own_below n (inr (inr (inr (inr is)))) = omega (arith, is)
+
+not_decided : (n : ℕ) → 5 ≤ n → IsOwn n → ⊥
+not_decided n h own = omega (arith, h, own_below n own)
 
 not_made : (n : ℕ) → 5 ≤ n → IsMade n → ⊥
 not_made n h (inl is) = omega (arith, h, is)
@@ -91,16 +94,40 @@ is_memory SinkFailed a b c d x y first later not = absurd (later y)
 is_memory Memory a b c d x y first later not = refl
 is_memory TooLong a b c d x y first later not = absurd (not refl)
 
--- a status that is decided is one of these four
-own_by : (o : Option ℕ) (n : ℕ) → IsDecided_by o n → IsOwn n
-own_by (Some at) n h = inr (inr (inl h))
-own_by None n (inl (inl h)) = inl h
-own_by None n (inl (inr h)) = inr (inl h)
-own_by None n (inr h) = inr (inr (inr h))
+-- a status that is decided is one of these five
+own_run : (n : ℕ) → IsMade n ⊎ (n ≡ 3) ⊎ (n ≡ 4) → IsOwn n
+own_run n (inl (inl h)) = inl h
+own_run n (inl (inr h)) = inr (inl h)
+own_run n (inr (inl h)) = inr (inr (inr (inl h)))
+own_run n (inr (inr h)) = inr (inr (inr (inr h)))
+
+own_once : (n : ℕ) → (n ≡ 0) ⊎ (n ≡ 3) ⊎ (n ≡ 4) → IsOwn n
+own_once n (inl h) = inl h
+own_once n (inr (inl h)) = inr (inr (inr (inl h)))
+own_once n (inr (inr h)) = inr (inr (inr (inr h)))
+
+own_check : (n : ℕ) → (n ≡ 0) ⊎ (n ≡ 3) → IsOwn n
+own_check n (inl h) = inl h
+own_check n (inr h) = inr (inr (inr (inl h)))
+
+own_make : (f : MakeForm) (n : ℕ) → IsMakeDecided f n → IsOwn n
+own_make form.Graph n h = inl h
+own_make form.Stream n h = inl h
+own_make (form.Run options) n h = own_run n h
+
+own_of : (c : Command) (n : ℕ) → IsDecidedOf c n → IsOwn n
+own_of (command.Run program graph stream options) n h = own_run n h
+own_of (command.Once program graph options) n h = own_once n h
+own_of (command.Check program) n h = own_check n h
+own_of (command.Make seed vertices pairs batches edits made) n h = own_make made n h
+
+own_by : (r : Result Command WordsRefusal) (n : ℕ) → IsDecidedBy r n → IsOwn n
+own_by (Err w) n h = inr (inr (inl h))
+own_by (Ok c) n h = own_of c n h
 
 own_status : (words : List (List ℕ)) (n : ℕ) → IsDecided words n → IsOwn n
 unfolding IsDecided
-own_status words n h = own_by (wrong_at words) n h
+own_status words n h = own_by (command_of words) n h
 
 -- a reading stopped where the status is 5 or 8
 read_stop : (e : Stop) → (status_of e ≡ 5) ⊎ (status_of e ≡ 8)
@@ -122,7 +149,7 @@ OfStream-map : (words : List (List ℕ)) (more : List Slot) (told : Option Told)
     → ((o : Opening) (c : Content) (s : Slot) → P o c s → Q o c s) → OfStream words more told P
     → OfStream words more told Q
 OfStream-map words more None P Q step h = tt
-OfStream-map words more (Some t) P Q step h = each (opening words (content t)) h
+OfStream-map words more (Some t) P Q step h = each (course words (content t)) h
   where
     all : (o : Opening) (ss : List Slot) → Each (P o (content t)) ss → Each (Q o (content t)) ss
     all o [] h = tt
@@ -136,7 +163,7 @@ OfStream-map words more (Some t) P Q step h = each (opening words (content t)) h
 
 module _ (words : List (List ℕ)) (old new : World) where
   abbrev Does : Result ℕ Stop → Type 0
-  Does r = Conducts (opening words) (files_before words) (named words) (opened_with words) old new r
+  Does r = Conducts (course words) (files_before words) (named words) (opened_with words) old new r
 
   pub Answers-ok : (s : ℕ) → Does (Ok s) → IsDecided words s → Answers words old new s
   Answers-ok s h decided =

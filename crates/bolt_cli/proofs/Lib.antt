@@ -1,3 +1,3 @@
 pub mod AnswerSteps
+pub mod PlaceSteps
 pub mod WordSteps
-pub mod RankSteps

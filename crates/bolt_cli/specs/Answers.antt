@@ -14,17 +14,16 @@ use Rattle.command_files.specs.Files.{content, AreFirst, AreRead, MeetsLong}
 use Rattle.command_files.specs.Reads.{with_slots}
 use Rattle.command_files.specs.Replied.{Leads}
 use Rattle.batch_run.specs.Conducts.{World, Each}
-use Rattle.command_text.specs.Still.{opening, files_before, files_read, still, named, opened_with}
-use Rattle.command_text.specs.Still.{IsDecided}
+use Rattle.command_course.specs.Still.{course, files_before, files_read, still, named, opened_with}
+use Rattle.command_course.specs.Still.{IsDecided}
 
--- a status that the words and the files decide: that of a run that was made, 2 where the words are
--- refused, and 4 where the graph is
+-- a status that the words and the files decide: 0 or 1 of what was done, 2 where the words are
+-- refused, 3 where the program is, and 4 where the graph is
 abbrev pub IsOwn : ℕ → Type 0
-IsOwn status = (status ≡ 0) ⊎ (status ≡ 1) ⊎ (status ≡ 2) ⊎ (status ≡ 4)
+IsOwn status = (status ≡ 0) ⊎ (status ≡ 1) ⊎ (status ≡ 2) ⊎ (status ≡ 3) ⊎ (status ≡ 4)
 
 -- a status that ends a command early: 5 for a fault of the shelf, 6 for one of the sink, 7 for want
--- of memory, and 8 for a file that
--- is too long
+-- of memory, and 8 for a file that is too long
 abbrev pub IsEarly : ℕ → Type 0
 IsEarly status = (status ≡ 5) ⊎ (status ≡ 6) ⊎ (status ≡ 7) ⊎ (status ≡ 8)
 
@@ -32,15 +31,15 @@ IsEarly status = (status ≡ 5) ⊎ (status ≡ 6) ⊎ (status ≡ 7) ⊎ (statu
 -- before it
 abbrev pub OfStream : List (List ℕ) → List Slot → Option Told → (Opening → Content → Slot → Type 0)
     → Type 0
-OfStream words more told P = IfSome told (λ t. IfOk (opening words (content t)) (λ o.
+OfStream words more told P = IfSome told (λ t. IfOk (course words (content t)) (λ o.
     Each (P o (content t)) (drop (length (files_before words (content t))) more)))
 
 -- how the call for these words ends with a status
 pub record Answers (words : List (List ℕ)) (old new : World) (status : ℕ) : Type 0 where
-  -- the status is one of these eight
+  -- the status is one of these nine
   pub known : IsOwn status ⊎ IsEarly status
-  -- where it is no early one, it is 2 exactly where a word is wrong, also of a shelf that tells
-  -- nothing
+  -- where it is no early one, it is 2 exactly where a word is wrong, and else one of those that the
+  -- command can have, also of a shelf that tells nothing
   pub decided : IsOwn status → IsDecided words status
   -- whatever the status, a prefix of the text for the words was written; with a decided one all of
   -- it, and the status is its own
@@ -49,9 +48,8 @@ pub record Answers (words : List (List ℕ)) (old new : World) (status : ℕ) : 
       (λ t. Wrote old.written new.written (still words (content t)).text)
   pub own : IsOwn status → IfSome old.told (λ t. status ≡ (still words (content t)).status)
   -- whatever the status, the files and the slots from before are as they were, and the slots more
-  -- are of the first files of the
-  -- list, in order, none of which was read further than it is to be; with a decided status they are
-  -- of all of them
+  -- are of the first files of the list, in order, none of which was read further than it is to be;
+  -- with a decided status they are of all of them
   pub more : List Slot
   pub slots : new.told ≡ option_map (with_slots more) old.told
   pub count : new.opened ≡ old.opened + length more
@@ -62,13 +60,12 @@ pub record Answers (words : List (List ℕ)) (old new : World) (status : ℕ) : 
   pub all_read : IsMade status → IfSome old.told
       (λ t. AreRead (content t) more (files_read words (content t)))
   -- also where nothing is told there are no more than the words name, and with a decided status so
-  -- many: for `run rank` none with 2,
-  -- one with 4, and two with 0 or 1
+  -- many: none with 2; else one for a program's file, one for a graph where the status isn't 3, and
+  -- one for a stream where it is 0 or 1
   pub within : length more ≤ named words
   pub full : IsOwn status → length more ≡ opened_with words status
   -- once the stream's slot was opened the opening text was written, and with 5 and 8 also what
-  -- became of each batch that a `commit`
-  -- ended in the bytes that were taken
+  -- became of each batch that a `commit` ended in the bytes that were taken
   pub begun : OfStream words more old.told (λ o _ _. Leads o.text old.written new.written)
   pub kept_up : (status ≡ 5) ⊎ (status ≡ 8) → OfStream words more old.told (λ o c s.
       Leads (o.text ++ o.of_batches (ended_batches (take s.taken (c o.stream)))) old.written

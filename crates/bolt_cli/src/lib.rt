@@ -2,12 +2,5 @@
 #![tactic(auto)]
 
 mod command;
-mod rank;
-mod words;
 
 pub use command::{bolt, bolt_still};
-
-#[cfg(test)]
-mod fault_tests;
-#[cfg(test)]
-mod tests;

@@ -1,6 +1,6 @@
 // Opens files by name, and reads graphs.
 ghost use Rattle.bolt_io.specs.declared.whole.TheConstants.{MOST_BYTES};
-ghost use Rattle.std.specs.Prelude.{◌≡◌, ◌+◌, ◌<◌, ◌≤◌, ◌^◌, ◌∷◌, [], pos, length, IsOk, IfOk};
+ghost use Rattle.std.specs.Prelude.{◌≡◌, ◌+◌, ◌<◌, ◌^◌, ◌∷◌, [], pos, length, IsOk, IfOk};
 ghost use Rattle.std.specs.Prelude.{OnOk, IfErr, OnErr, IfSome, IsErrOf};
 ghost use Rattle.std.specs.Option.{option_map};
 ghost use Rattle.bolt_base.specs.Graph.{IsBetween, IsGood};

@@ -1,5 +1,5 @@
 // Writes texts.
-ghost use Rattle.std.specs.Prelude.{◌≡◌, IfErr, OnOk};
+ghost use Rattle.std.specs.Prelude.{IfErr, OnOk};
 ghost use Rattle.bolt_io.specs.Written.{Wrote, WrotePart};
 ghost use Rattle.command_files.specs.Stops.{BlamesSink, IsOfWriting};
 

@@ -1,6 +1,6 @@
-use Rattle.std.proofs.Common.{◌≡◌, ℕ, sym, subst}
-use Rattle.output_text.specs.Words.{texts}
-use Rattle.batch_run.specs.Conducts.{World, world_of}
+use Rattle.std.proofs.Common.{ℕ, sym, subst}
+use Rattle.cli_words.specs.Words.{texts}
+use Rattle.batch_run.specs.Conducts.{world_of}
 use Rattle.bolt_cli.specs.Answers.{Answers}
 use Rattle.bolt_cli.proofs.AnswerSteps.{Answers-ok, Answers-err}
 use Rattle.bolt_cli.proofs.command.bolt_still.Goals as goal

@@ -1,4 +1,4 @@
-use Rattle.std.proofs.Common.{◌≡◌, ℕ, List, subst}
+use Rattle.std.proofs.Common.{ℕ, List, subst}
 use Rattle.batch_steps.specs.declared.reply.Reply.{Reply}
 use Rattle.command_files.specs.Replied.{Gives}
 use Rattle.bolt_cli.proofs.command.refuse_words.Goals as goal

@@ -1,0 +1,4 @@
+pub mod Course
+pub mod Programs
+pub mod Openings
+pub mod Still

@@ -1,0 +1,2 @@
+//! What each command line writes, and which files it reads: definitions alone.
+#![tactic(auto)]

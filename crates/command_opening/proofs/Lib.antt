@@ -1,0 +1,2 @@
+mod ProgramSteps
+pub mod BothSteps

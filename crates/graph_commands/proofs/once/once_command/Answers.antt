@@ -1,0 +1,51 @@
+use Rattle.std.proofs.Common.{ℕ, ◌+◌, refl}
+use Rattle.std.proofs.lemmas.Result.{err_from_is_err_and}
+use Rattle.batch_run.proofs.ReplySteps.{Conducts-replied, Conducts-unreplied}
+use Rattle.batch_steps.specs.Steps.{IsMade}
+use Rattle.batch_steps.specs.declared.reply.Reply.{Reply}
+use Rattle.cli_words.specs.Words.{texts}
+use Rattle.command_course.specs.Still.{both_files, graph_slots, once_course, program_count}
+use Rattle.graph_commands.proofs.WordSteps.{Conducts-once, decided-once}
+use Rattle.graph_commands.proofs.once.once_command.Goals as goal
+
+pub returns-in_err-reply-clause-conducts : goal.returns-in_err-reply-clause-conducts
+returns-in_err-reply-clause-conducts g c =
+    let words = texts c.args.words.now in
+    let w = c.args.program in
+    let p = err_from_is_err_and c.from_residual.result c.from_residual.ensures.1 in
+    rw (p.1, p.2)
+    (Conducts-once words w c.args.graph c.args.options c.requires.command _ _ _
+    (Conducts-unreplied (once_course words w c.args.graph c.args.options)
+    (both_files words w c.args.graph) (λ (reply : Reply). IsMade reply.status)
+    (program_count w + 1) (λ (reply : Reply). program_count w + graph_slots reply.status)
+    (λ (s : ℕ). program_count w + graph_slots s) (g.S.Shelf.told c.args.shelf.now)
+    (g.S.Shelf.told c.read_reply.new.shelf) (g.S.Shelf.opened c.args.shelf.now)
+    (g.S.Shelf.opened c.read_reply.new.shelf) (g.S.Shelf.faults c.args.shelf.now)
+    (g.S.Shelf.faults c.read_reply.new.shelf) (g.K.Sink.written c.args.out.now)
+    (g.K.Sink.written c.args.out.now) (g.K.Sink.faults c.args.out.now)
+    (g.K.Sink.faults c.args.out.now) c.in_err-reply.field-0.0 c.in_err-reply.ensures.reads
+    c.in_err-reply.ensures.reading c.in_err-reply.ensures.cause))
+
+pub returns-clause-conducts : goal.returns-clause-conducts
+returns-clause-conducts g c =
+    let words = texts c.args.words.now in
+    let w = c.args.program in
+    Conducts-once words w c.args.graph c.args.options c.requires.command _ _ _
+    (Conducts-replied (once_course words w c.args.graph c.args.options)
+    (both_files words w c.args.graph) (λ (reply : Reply). IsMade reply.status)
+    (program_count w + 1) (λ (reply : Reply). program_count w + graph_slots reply.status)
+    (λ (s : ℕ). program_count w + graph_slots s) (g.S.Shelf.told c.args.shelf.now)
+    (g.S.Shelf.told c.read_reply.new.shelf) (g.S.Shelf.opened c.args.shelf.now)
+    (g.S.Shelf.opened c.read_reply.new.shelf) (g.S.Shelf.faults c.args.shelf.now)
+    (g.S.Shelf.faults c.read_reply.new.shelf) (g.K.Sink.written c.args.out.now)
+    (g.K.Sink.written c.refuse.new.out) (g.K.Sink.faults c.args.out.now)
+    (g.K.Sink.faults c.refuse.new.out) c.in_ok-reply.reply c.refuse.result
+    c.in_ok-reply.ensures.reads c.in_ok-reply.ensures.course refl (λ made. made)
+    c.refuse.ensures.gives c.refuse.ensures.status c.refuse.ensures.writing
+    c.in_ok-reply.ensures.cause c.refuse.ensures.cause)
+
+pub returns-clause-decided : goal.returns-clause-decided
+returns-clause-decided g c =
+    decided-once (texts c.args.words.now) c.args.program c.args.graph c.args.options
+    c.requires.command c.refuse.result c.in_ok-reply.reply.status c.refuse.ensures.status
+    c.in_ok-reply.ensures.status

@@ -1,0 +1,5 @@
+mod RankProgram
+mod RankLimits
+mod LineNumbers
+mod RunSteps
+mod MadeSteps

@@ -1,0 +1,2 @@
+pub mod JudgeSteps
+pub mod ReadSteps

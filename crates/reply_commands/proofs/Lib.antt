@@ -1,0 +1,2 @@
+mod CheckSteps
+mod MakeSteps
