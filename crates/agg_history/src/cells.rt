@@ -1,7 +1,7 @@
 // Entries of one width, as flat numbers.
 ghost use Rattle.std.specs.Prelude.{◌≡◌, ◌↔◌, pos, ◌+◌, ◌<◌, ◌≤◌, ◌^◌, ◌++◌, [], length};
 ghost use Rattle.std.specs.Prelude.{take, drop, slice_index_or, slice_set, IsTrue, IfOk, OnOk};
-ghost use Rattle.std.specs.Prelude.{OnErr};
+ghost use Rattle.std.specs.Prelude.{OnErr, vec_len, vec_capacity};
 ghost use Rattle.bolt_base.specs.Keep.{rest_at, stored};
 ghost use Rattle.agg_history.specs.Entries.{entry_in, words_of, with_entry};
 
@@ -106,18 +106,11 @@ impl Cells {
         ensures ok { OnOk result (self.new ≡ with_entry self.old (agg.now, val.now)) }
         ensures err { OnErr result (self.new ≡ self.old) }
     {
-        let old = self.words.len();
-        self.words.extend_from_slice(agg.as_slice())?;
-        match self.words.extend_from_slice(val.as_slice()) {
-            Ok(()) => {
-                self.len += 1;
-                Ok(())
-            }
-            Err(error) => {
-                self.words.truncate(old);
-                Err(error)
-            }
-        }
+        self.words.reserve(2 * self.lanes as usize)?;
+        push_lanes(&mut self.words, agg);
+        push_lanes(&mut self.words, val);
+        self.len += 1;
+        Ok(())
     }
 
     /// Appends an entry of another list. Nothing changes after an error.
@@ -209,6 +202,18 @@ impl Cells {
             len: count,
             words,
         })
+    }
+}
+
+// Appends numbers, for which there is room.
+fn push_lanes(words: &mut Vec<i64>, lanes: &Lanes)
+    requires room { vec_len words.old + length lanes.now ≤ vec_capacity words.old }
+    ensures items { words.new.items ≡ words.old.items ++ lanes.now }
+    ensures len { vec_len words.new ≡ vec_len words.old + length lanes.now }
+    ensures capacity { vec_capacity words.new ≡ vec_capacity words.old }
+{
+    for lane in 0..lanes.width() {
+        words.push_reserved(lanes.get(lane));
     }
 }
 

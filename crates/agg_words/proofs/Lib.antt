@@ -3,6 +3,7 @@ pub mod Pigeons
 pub mod Knowing
 pub mod Adding
 pub mod Marking
+pub mod Meeting
 pub mod Wiping
 pub mod Seats
 pub mod Clearing

@@ -1,10 +1,10 @@
 -- What each kind of step tells of the number that it found and of its seat's new view. No seat
 -- holds a slot.
-use Rattle.std.specs.Prelude.{◌≡◌, ℕ, ◌%◌, ◌==◌}
+use Rattle.std.specs.Prelude.{◌≡◌, ℕ, ◌%◌, ◌==◌, if◌then◌else◌}
 use Rattle.std.specs.Int.{bit_at}
 use Rattle.bolt_base.specs.Residue.{sum_at}
 use Rattle.atomic_table.specs.Table.{Step, Me}
-use Rattle.agg_words.specs.View.{View, with_amount, minus, with_bit, without_word}
+use Rattle.agg_words.specs.View.{View, with_amount, minus, with_bit, with_met, without_word}
 use Rattle.agg_words.specs.Known.{IsKnown, MarksOnce}
 use Rattle.agg_words.specs.declared.layout.Layout.{Layout}
 
@@ -25,6 +25,13 @@ taken st me found next =
 abbrev pub marked : ℕ → Layout → Told
 marked bit k st me found next =
     (next ≡ (with_bit (bit_at found (bit % 64) == 0) me.0 bit, me.1))
+    × MarksOnce k next.0
+    × (next.0.units ≡ k.units → IsKnown k next.0)
+
+-- the bit was set and has been met, or was clear and nothing has changed
+abbrev pub met : ℕ → Layout → Told
+met bit k st me found next =
+    (next ≡ (if bit_at found (bit % 64) == 1 then with_met me.0 bit else me.0, me.1))
     × MarksOnce k next.0
     × (next.0.units ≡ k.units → IsKnown k next.0)
 

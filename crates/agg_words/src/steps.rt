@@ -1,7 +1,7 @@
 // The rule of the table, and its kinds of step.
 ghost use Rattle.agg_words.specs.View.{bare, joined, with_fewer};
 ghost use Rattle.agg_words.specs.Rule.{IsKept, opened};
-ghost use Rattle.agg_words.specs.Steps.{added, taken, marked, looked, wiped};
+ghost use Rattle.agg_words.specs.Steps.{added, taken, marked, met, looked, wiped};
 
 use crate::layout::Layout;
 use crate::view::View;
@@ -70,6 +70,13 @@ pub struct Mark<O: Operand>(PhantomData<O>);
 
 impl<O: Operand> Play<u8, View> for Mark<O> {
     ghost then = { marked O.number O.layout };
+}
+
+/// Loads the word of the bit `O.number`, and meets the bit where it is set.
+pub struct Meet<O: Operand>(PhantomData<O>);
+
+impl<O: Operand> Play<u8, View> for Meet<O> {
+    ghost then = { met O.number O.layout };
 }
 
 /// Loads a word.

@@ -1,16 +1,16 @@
 // A table of aggregate words and mark words.
-ghost use Rattle.std.specs.Prelude.{◌≡◌, ℕ, ◌/◌, ◌<◌, ◌≤◌, IfOk};
+ghost use Rattle.std.specs.Prelude.{◌≡◌, ℕ, ◌/◌, ◌<◌, ◌≤◌, IfOk, if◌then◌else◌};
 ghost use Rattle.std.specs.Int.{cast_signed, w64};
 ghost use Rattle.bolt_base.specs.Residue.{sum_at};
 ghost use Rattle.agg_words.specs.View.{IsGone, bare, joined, with_amount, with_bit, with_fewer};
-ghost use Rattle.agg_words.specs.View.{with_taken, without_word};
+ghost use Rattle.agg_words.specs.View.{with_met, with_taken, without_word};
 ghost use Rattle.agg_words.specs.Rule.{mark_words};
 ghost use Rattle.agg_words.specs.Known.{IsClear, IsKnown, MarksOnce};
 ghost use Rattle.agg_words.specs.Facts.{word_count};
 
 use crate::layout::Layout;
 use crate::seat::AggSeat;
-use crate::steps::{Add, Cut, Glue, Look, Mark, Operand, Take, Wipe, Words};
+use crate::steps::{Add, Cut, Glue, Look, Mark, Meet, Operand, Take, Wipe, Words};
 use crate::view::View;
 use atomic_table::Table;
 use bolt_base::Memory;
@@ -157,8 +157,9 @@ impl AggWords {
         sum.cast_signed()
     }
 
-    /// Marks a bit by one `fetch_or`. True where the bit was clear at this step, and stands in the
-    /// seat's marks now; false where it was set, and the seat has met it.
+    /// Marks a bit: loads its word, and steps by `fetch_or` where it isn't set there. True where the
+    /// bit was clear at this step, and stands in the seat's marks now; false where it was set, and
+    /// the seat has met it.
     pub fn mark(&self, seat: &mut AggSeat, bit: u32) -> bool
         requires table { seat.old.table ≡ self.now.table }
         requires bit { bit < self.now.layout.bits }
@@ -168,7 +169,28 @@ impl AggWords {
         ensures full { seat.new.view.units ≡ self.now.layout.units
             → IsKnown self.now.layout seat.new.view }
     {
+        if self.meet_as::<Brand>(seat, bit) {
+            return false;
+        }
         self.mark_as::<Brand>(seat, bit)
+    }
+
+    // Whether a bit is set, by one load. Where it is, the seat has met it.
+    fn meet_as<O: Operand>(&self, seat: &mut AggSeat, bit: u32) -> bool
+        requires told { (O.number ≡ bit) × (O.layout ≡ self.now.layout) }
+        requires table { seat.old.table ≡ self.now.table }
+        requires bit { bit < self.now.layout.bits }
+        requires unit { 1 ≤ seat.old.view.units }
+        ensures seat { seat.new ≡ record seat.old {
+          view = if result then with_met seat.old.view bit else seat.old.view;
+        } }
+        ensures once { MarksOnce self.now.layout seat.new.view }
+        ensures full { seat.new.view.units ≡ self.now.layout.units
+            → IsKnown self.now.layout seat.new.view }
+    {
+        let word = self.layout.place_of(bit / 64);
+        let found = self.table.shared.load::<Meet<O>>(&mut seat.seat, word);
+        found >> (bit % 64) & 1 == 1
     }
 
     fn mark_as<O: Operand>(&self, seat: &mut AggSeat, bit: u32) -> bool

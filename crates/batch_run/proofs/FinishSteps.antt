@@ -24,8 +24,8 @@ use Rattle.command_files.proofs.FileSteps.{Reads-none, Reads-nothing}
 use Rattle.command_files.proofs.ReadSteps.{Reads-then, Reads-err, told_all, told_map}
 use Rattle.command_files.proofs.WriteSteps.{Leads-then, Leads-behind, Replied-behind}
 use Rattle.command_files.proofs.WriteSteps.{Replied-unwritten, Replied-known, Replied-later}
-use Rattle.batch_run.specs.declared.finish.Opened.{Opened}
-use Rattle.batch_run.specs.declared.finish.Opened.TheVariants.{Refused, Runs}
+use Rattle.batch_run.specs.declared.opened.Opened.{Opened}
+use Rattle.batch_run.specs.declared.opened.Opened.TheVariants.{Refused, Runs}
 use Rattle.batch_run.specs.Conducts.{World, world_of, Each, Begun, BegunAfter, Conducts}
 use Rattle.batch_run.specs.Opened.{course, IsReady, IsRun, EndsWith}
 

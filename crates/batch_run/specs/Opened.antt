@@ -3,8 +3,8 @@ use Rattle.std.specs.Prelude.{◌≡◌, ℕ, ◌≤◌, List, Result, Ok, Err}
 use Rattle.batch_steps.specs.declared.reply.Reply.{Reply}
 use Rattle.batch_steps.specs.Steps.{Steps, IsMade}
 use Rattle.batch_steps.specs.Course.{Opening, opening_of}
-use Rattle.batch_run.specs.declared.finish.Opened.{Opened}
-use Rattle.batch_run.specs.declared.finish.Opened.TheVariants.{Refused, Runs}
+use Rattle.batch_run.specs.declared.opened.Opened.{Opened}
+use Rattle.batch_run.specs.declared.opened.Opened.TheVariants.{Refused, Runs}
 
 -- as what is to be written and read then
 abbrev pub course : {T S : Type 0} → (T → S) → Steps S → List ℕ → Opened T → Result Opening Reply

@@ -1,10 +1,8 @@
-//! The one loop over the batches of a stream, and the end that all commands with a stream share.
+//! What a loop over the batches of a stream has to show, and the end that all commands share.
 #![tactic(auto)]
 
 mod batches;
-mod finish;
-mod stream;
+mod opened;
 
 pub use batches::next_batch;
-pub use finish::{Opened, finish_opened, refuse};
-pub use stream::run_stream;
+pub use opened::{Opened, put_reply};

@@ -2,7 +2,6 @@
 use Rattle.std.proofs.Common.{◌≡◌, ◌≢◌, ℕ, zero, suc, ◌≤◌, take, length, arith, true}
 use Rattle.std.proofs.Common.{true≢false, List, [], ◌∷◌, ◌++◌, set, refl, sym, ap, ◌∙◌, subst}
 use Rattle.std.proofs.Common.{⊎_elim}
-use Rattle.std.specs.List.{All}
 use mathlib.Core.Option.{some}
 use lib.ListN.{get_elem?}
 use Rattle.crossbeam_utils.specs.Register.{Admits, TurnsAt, Forks, Merges}
@@ -10,7 +9,7 @@ use Rattle.atomic_table.proofs.Lists.{at_set, at_snoc}
 use Rattle.bolt_base.specs.Edits.{after}
 use Rattle.bolt_base.specs.Graph.{Graph, vertices}
 use Rattle.vertex_expr.specs.declared.program.ProgramEntries.{ProgramEntries}
-use Rattle.run_model.specs.Logs.{Round, log_edits}
+use Rattle.run_model.specs.Logs.{Round, log_edits, with_changes}
 use Rattle.run_model.specs.Program.{lanes}
 use Rattle.run_model.specs.Rows.{Lists, answer}
 use Rattle.run_model.proofs.LogLemmas.{right_begins}
@@ -21,13 +20,12 @@ use Rattle.board.specs.declared.kinds.Sheet.{Sheet}
 use Rattle.board.specs.declared.face.Face.{Face}
 use Rattle.board.specs.declared.face.Put.{Put}
 use Rattle.board.specs.declared.face.Change.TheVariants.{Put as Noted}
-use Rattle.board.specs.declared.query.Query.{Query}
 use Rattle.board.specs.Log.{shows, round_of, rounds_of, origin_of, origin, IsRightLog, HasRoom}
 use Rattle.board.specs.Halls.{with_changes_in}
-use Rattle.board.specs.Queries.{HasLane}
 use Rattle.board.specs.Sheets.{sheet_of, changed, IsRight, IsNext}
 use Rattle.board.specs.Rules.{Knows, Agrees, stranger, Looks}
 use Rattle.board.proofs.Going.{shows_round_more, right_log_goes_on, room_goes_on}
+use Rattle.board.proofs.Flat.{AreWide}
 use Rattle.board.proofs.Roomy.{changes_find_room}
 
 known_by_one_more : (m : Mark) (views : List Mark) (v : Mark) → Knows m views
@@ -44,6 +42,11 @@ known_by_another m views seat v h new j u e =
     (λ (t : (j ≡ seat) × (v ≡ u)). subst (λ (z : Mark). z.known ≡ true → z ≡ m) t.1 new)
     (λ (t : (j ≢ seat) × (get_elem? views j ≡ some u)). h j u t.1)
     (at_set views seat j v u e)
+
+-- the view of a table that nobody has looked at knows no board
+pub knows_none : (m : Mark) → Knows m (stranger ∷ [])
+knows_none m =
+    known_by_one_more m [] stranger (λ seat v at. absurd (cc at)) (λ e. absurd (true≢false (sym e)))
 
 pub rule_admits : Admits Agrees stranger
 rule_admits x views h =
@@ -84,6 +87,13 @@ rule_merges seat v other w x views h at apart there =
           (known_by_another m views seat w h.1 known) (λ e. absurd (true≢false (sym e))),
     )
 
+-- each value of an answer has the program's lanes
+pub answers_are_wide : (p : ProgramEntries) (g : Graph) (width : ℕ) (values : Lists)
+    → width ≡ lanes p → values ≡ answer p g → AreWide width values
+answers_are_wide p g width values wide is =
+    subst (AreWide width) (sym is)
+    (λ k d h. (values_whole p g p.rounds).each_lane k d h ∙ sym wide)
+
 -- the sheet after a note whose round follows
 pub note_keeps_right : (s : Sheet) (p : Put) → IsNext s p → IsRight s
     → IsRight (changed s (Noted p))
@@ -92,9 +102,17 @@ note_keeps_right s p next right =
     let o = s.mark.origin in
     let log = rounds_of s.log in
     let same : origin_of p.front.seen.log ≡ o = ap (λ (m : Mark). m.origin) next.mark in
-    let answer_ : with_changes_in s.room s.answer p.note.changes ≡ shows o (log ++ r ∷ []) =
-    ap (λ (xs : Lists). with_changes_in s.room xs p.note.changes) right.answer
-    ∙ changes_find_room s.room p.note.changes (shows o log) next.room
+    let now = after o.graph (log_edits (take (length log) log)) in
+    let is : shows o log ≡ answer o.program now =
+    right.log (length log) (let le : length log ≤ length log = omega arith in le) in
+    let before : AreWide s.width (shows o log) =
+    answers_are_wide o.program now s.width (shows o log) right.width is in
+    let behind : AreWide s.width (with_changes (shows o log) r.changes) =
+    answers_are_wide o.program _ s.width _ right.width next.right in
+    let answer_ : with_changes_in s.width s.room s.answer p.note.changes
+    ≡ shows o (log ++ r ∷ []) =
+    ap (λ (xs : Lists). with_changes_in s.width s.room xs p.note.changes) right.answer
+    ∙ changes_find_room s.width s.room p.note.changes (shows o log) before behind next.room
     ∙ sym (shows_round_more o log r) in
     let move : (Q : Origin → List Round → Type 0) → Q o (log ++ r ∷ [])
     → Q (origin_of p.front.seen.log) (rounds_of p.front.seen.log) =
@@ -102,10 +120,11 @@ note_keeps_right s p next right =
     (subst (Q o) (sym next.log) h) in
     record {
       answer = move
-          (λ q l. with_changes_in s.room s.answer p.note.changes ≡ shows q l) answer_;
+          (λ q l. with_changes_in s.width s.room s.answer p.note.changes ≡ shows q l) answer_;
       log = move IsRightLog (right_log_goes_on o log r right.log next.right);
       room = move (λ q l. HasRoom q s.room l)
           (room_goes_on o log r s.room right.room next.room);
+      width = right.width ∙ ap (λ (q : Origin). lanes q.program) (sym same);
     }
 
 room_at_start : (o : Origin) (room : ℕ) → length (answer o.program o.graph) ≤ room
@@ -115,8 +134,9 @@ room_at_start o room few (suc k) le = absurd (omega arith)
 
 -- the sheet of a new board
 pub begins_right : (p : ProgramEntries) (g : Graph) (s : Sheet) → s.mark.origin ≡ origin p g
-    → rounds_of s.log ≡ [] → s.answer ≡ answer p g → vertices g ≤ s.room → IsRight s
-begins_right p g s here none start fits =
+    → rounds_of s.log ≡ [] → s.answer ≡ answer p g → vertices g ≤ s.room → s.width ≡ lanes p
+    → IsRight s
+begins_right p g s here none start fits wide =
     let whole = (values_whole p g p.rounds).each_vertex in
     let few : length (answer p g) ≤ s.room = omega (arith, whole, fits) in
     let move : (Q : Origin → List Round → Type 0) → Q (origin p g) []
@@ -127,6 +147,7 @@ begins_right p g s here none start fits =
       answer = move (λ q l. s.answer ≡ shows q l) start;
       log = move IsRightLog (right_begins p g);
       room = move (λ q l. HasRoom q s.room l) (room_at_start (origin p g) s.room few);
+      width = wide ∙ ap (λ (q : Origin). lanes q.program) (sym here);
     }
 
 pub start_fits : (p : ProgramEntries) (g : Graph) (start : Lists) (room : ℕ) → start ≡ answer p g
@@ -134,16 +155,3 @@ pub start_fits : (p : ProgramEntries) (g : Graph) (start : Lists) (room : ℕ) �
 start_fits p g start room is fits =
     let whole = (values_whole p g p.rounds).each_vertex in
     omega (arith, ap length is, whole, fits)
-
--- each value of a right sheet has the program's lanes
-pub values_have_lane : (s : Sheet) (q : Query) → IsRight s → HasLane q (lanes s.mark.origin.program)
-    → All (λ xs. HasLane q (length xs)) s.answer
-values_have_lane s q right has =
-    let o = s.mark.origin in
-    let log = rounds_of s.log in
-    let g = after o.graph (log_edits (take (length log) log)) in
-    let same : s.answer ≡ answer o.program g =
-    right.answer ∙ right.log (length log) (let le : length log ≤ length log = omega arith in le) in
-    let whole = (values_whole o.program g o.program.rounds).each_lane in
-    subst (λ (xs : Lists). All (λ ys. HasLane q (length ys)) xs) (sym same)
-    (λ k d l. subst (λ (n : ℕ). HasLane q n) (sym (whole k d l)) has)

@@ -41,7 +41,7 @@ fn glance_at(face: &Face, query: &Query) -> Glance
 {
     Glance {
         front: face.front.again(),
-        body: meaning(query, face.answer.values()),
+        body: meaning(query, &face.answer),
     }
 }
 

@@ -29,6 +29,7 @@ pub struct Mark {
 pub struct Sheet {
     pub mark: Mark,
     pub room: u32,
+    pub width: u32,
     pub answer: LinkedList<Lanes>,
     pub log: LinkedList<Entry>,
 }

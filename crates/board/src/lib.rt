@@ -17,6 +17,3 @@ pub use desk::{Desk, DeskList, Reply};
 pub use note::RoundNote;
 pub use publisher::{MOST_DESKS, Publisher, open};
 pub use query::{Body, Query};
-
-#[cfg(test)]
-mod tests;

@@ -4,6 +4,7 @@ ghost use Rattle.std.specs.Prelude.{IfOk, IfSome, IsSome, MatchResult};
 ghost use Rattle.std.specs.List.{All};
 ghost use Rattle.left_right.specs.Sides.{view};
 ghost use Rattle.bolt_base.specs.Graph.{vertices};
+ghost use Rattle.run_model.specs.Program.{lanes};
 ghost use Rattle.run_model.specs.Rows.{answer};
 ghost use Rattle.board.specs.Law.{head_of};
 ghost use Rattle.board.specs.Log.{GoesOn, HasRoomFor, origin, origin_of, round_of, rounds_of};
@@ -287,6 +288,31 @@ impl Publisher {
     }
 }
 
+// A copy of the start, which shows the log that `tip` names.
+fn face_of(
+    alloc: Global,
+    accepted: &Accepted,
+    start: &Answer,
+    room: u32,
+    tip: &Receipt,
+) -> Result<Face, Memory>
+    requires program { (origin_of tip.now.seen.log).program ≡ accepted.now }
+    requires rounds { rounds_of tip.now.seen.log ≡ [] }
+    requires start { start.now ≡ answer accepted.now (origin_of tip.now.seen.log).graph }
+    requires room { vertices (origin_of tip.now.seen.log).graph ≤ room }
+    ensures answer { IfOk result (λ face. face.answer
+        ≡ record { values = start.now; room = room; width = lanes accepted.now }) }
+    ensures front { IfOk result (λ face. face.front ≡ tip.now) }
+    ensures right { IfOk result (λ face. IsRight (sheet_of face)) }
+{
+    let lanes = accepted.program().entries().ranges.len() as u32;
+    let answer = Places::new(alloc, start, lanes, room)?;
+    Ok(Face {
+        answer,
+        front: tip.again(),
+    })
+}
+
 /// A board that shows this answer of the program on the graph, and its desks. There may be up to
 /// `room` vertices; the memory for them is taken here.
 pub fn open<A: Adjacency, R: Wait>(
@@ -311,17 +337,9 @@ pub fn open<A: Adjacency, R: Wait>(
     ensures desks { IfOk result (λ r. (length r.1 ≡ desks)
         × All (λ d. d ≡ new_post r.0.book (origin accepted.now (A.plain graph.now))) r.1) }
 {
-    let first = Places::new(alloc, start, room)?;
-    let second = Places::new(alloc, start, room)?;
     let (head, tip) = open_book(rt, &Grounds { accepted, graph });
-    let first = Face {
-        answer: first,
-        front: tip.again(),
-    };
-    let second = Face {
-        answer: second,
-        front: tip.again(),
-    };
+    let first = face_of(alloc, accepted, start, room, &tip)?;
+    let second = face_of(alloc, accepted, start, room, &tip)?;
     let writer: DeskWriter = Writer::new(alloc, first, second, desks.max(1) as usize)?;
     let mut writer = with_log_room(rt, writer)?;
     match seat_desks(rt, alloc, &mut writer, &tip, desks) {

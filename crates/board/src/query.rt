@@ -1,8 +1,8 @@
 // Questions about an answer.
-ghost use Rattle.std.specs.Prelude.{◌≡◌, ◌<◌, ◌^◌, length};
-ghost use Rattle.std.specs.List.{All};
+ghost use Rattle.std.specs.Prelude.{◌≡◌, ◌<◌};
 ghost use Rattle.board.specs.Queries.{HasLane, at_least, lane_total, means};
 
+use crate::places::Places;
 use bolt_base::Lanes;
 
 /// A question about an answer. Lanes are counted from 0.
@@ -35,27 +35,25 @@ pub enum Body {
 
 // The sum of a lane.
 #[tactic(auto, using(crate::proofs::Sums::sum_grows, crate::proofs::Sums::sum_fits))]
-fn total(values: &[Lanes], lane: u32) -> i128
-    requires lane { All (λ xs. lane < length xs) values.now }
-    requires few { length values.now < 2 ^ 32 }
-    ensures { result ≡ lane_total lane values.now }
+fn total(places: &Places, lane: u32) -> i128
+    requires { lane < places.now.width }
+    ensures { result ≡ lane_total lane places.now.values }
 {
     let mut total = 0;
-    for value in values {
-        total += i128::from(value.get(lane));
+    for vertex in 0..places.len() {
+        total += i128::from(places.number(vertex, lane));
     }
     total
 }
 
 // How many vertices have a number in a lane that is at least `least`.
-fn count_at_least(values: &[Lanes], lane: u32, least: i64) -> u32
-    requires lane { All (λ xs. lane < length xs) values.now }
-    requires few { length values.now < 2 ^ 32 }
-    ensures { result ≡ at_least lane least values.now }
+fn count_at_least(places: &Places, lane: u32, least: i64) -> u32
+    requires { lane < places.now.width }
+    ensures { result ≡ at_least lane least places.now.values }
 {
     let mut count = 0;
-    for value in values {
-        if least <= value.get(lane) {
+    for vertex in 0..places.len() {
+        if least <= places.number(vertex, lane) {
             count += 1;
         }
     }
@@ -63,20 +61,17 @@ fn count_at_least(values: &[Lanes], lane: u32, least: i64) -> u32
 }
 
 /// What a query means on an answer.
-pub(crate) fn meaning(query: &Query, values: &[Lanes]) -> Body
-    requires lane { All (λ xs. HasLane query.now (length xs)) values.now }
-    requires few { length values.now < 2 ^ 32 }
-    ensures { result ≡ means query.now values.now }
+pub(crate) fn meaning(query: &Query, places: &Places) -> Body
+    requires lane { HasLane query.now places.now.width }
+    ensures { result ≡ means query.now places.now.values }
 {
     match *query {
-        Query::Value(vertex) => match values.get(vertex as usize) {
-            Some(value) => Body::Value(*value),
-            None => Body::NoVertex {
-                vertices: values.len() as u32,
-            },
+        Query::Value(vertex) if vertex < places.len() => Body::Value(places.value(vertex)),
+        Query::Value(_) => Body::NoVertex {
+            vertices: places.len(),
         },
-        Query::Total(lane) => Body::Total(total(values, lane)),
-        Query::AtLeast(lane, least) => Body::Count(count_at_least(values, lane, least)),
+        Query::Total(lane) => Body::Total(total(places, lane)),
+        Query::AtLeast(lane, least) => Body::Count(count_at_least(places, lane, least)),
         Query::Prefix => Body::Prefix,
     }
 }

@@ -4,35 +4,52 @@
 ghost use Rattle.std.specs.Prelude.{◌≡◌, ◌≢◌, drop};
 ghost use Rattle.std.specs.IoError.{error_kind};
 
+mod advice;
+mod again;
+mod caret;
 mod file_shelf;
 mod std_sink;
+mod usage;
 
+use again::told;
 use bolt_base::OpenGate;
 use bolt_cli::bolt;
 use file_shelf::FileShelf;
 use std::io::ErrorKind;
 use std::process::ExitCode;
+use std::rt::Files;
 use std::{env, io};
 use std_sink::StdSink;
+use usage::reason;
 
 fn main(rt: HostRuntime) -> ExitCode {
     let all: Vec<String> = match env::args(&rt) {
         Ok(all) => match all.collect(rt.alloc()) {
             Ok(all) => all,
-            Err(error) => return ExitCode::from(no_words(&io::Error::from(error))),
+            Err(error) => return end_wordless(&rt, &io::Error::from(error)),
         },
-        Err(error) => return ExitCode::from(no_words(&error)),
+        Err(error) => return end_wordless(&rt, &error),
     };
+    let words = after_name(&all);
     let mut shelf = FileShelf::new(&rt, rt.alloc());
     let mut out = StdSink::new(io::writer(&rt));
-    ExitCode::from(bolt(
-        &rt,
-        rt.alloc(),
-        after_name(&all),
-        &mut shelf,
-        &mut out,
-        &OpenGate,
-    ))
+    let status = bolt(&rt, rt.alloc(), words, &mut shelf, &mut out, &OpenGate);
+    tell(&rt, words, status);
+    ExitCode::from(status)
+}
+
+// Tells a person on standard error what there is to tell. That it can't be told changes nothing.
+fn tell<R: Files + Eprint + AllocGlobal>(rt: &R, words: &[String], status: u8) {
+    if let Ok(text) = told(rt, words, status) {
+        let _ = rt.eprint(text);
+    }
+}
+
+// The end of the program where the words can't be had.
+fn end_wordless(rt: &impl Eprint, error: &io::Error) -> ExitCode {
+    let status = no_words(error);
+    let _ = rt.eprint(reason(status));
+    ExitCode::from(status)
 }
 
 // The words after the program's name.

@@ -10,7 +10,7 @@ ghost use Rattle.command_course.specs.Still.{course, files_before, named, opened
 ghost use Rattle.command_course.specs.Still.{IsDecided};
 ghost use Rattle.bolt_cli.specs.Answers.{Answers};
 
-use batch_run::refuse;
+use batch_run::put_reply;
 use batch_steps::Reply;
 use bolt_base::Gate;
 use bolt_io::{Shelf, Sink};
@@ -31,7 +31,7 @@ fn refuse_words<K: Sink>(alloc: Global, refusal: WordsRefusal, out: &mut K) -> R
     ensures writing { IfErr result IsOfWriting }
 {
     let text = words_refused(alloc, refusal.at)?;
-    refuse(&Reply { text, status: 2 }, out)
+    put_reply(&Reply { text, status: 2 }, out)
 }
 
 // Does what a command says.

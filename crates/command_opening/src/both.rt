@@ -1,5 +1,6 @@
 // The program and the graph that words name.
-ghost use Rattle.std.specs.Prelude.{◌≡◌, ◌⊎◌, ◌+◌, ◌<◌, ◌≤◌, ◌^◌, ◌∷◌, [], IfErr, IfOk, IfSome, IsOk};
+ghost use Rattle.std.specs.Prelude.{◌≡◌, ◌⊎◌, ◌+◌, ◌<◌, ◌≤◌, ◌^◌, ◌∷◌, [], IfErr, IfOk};
+ghost use Rattle.std.specs.Prelude.{IfSome, IsOk};
 ghost use Rattle.bolt_base.specs.Graph.{IsGood};
 ghost use Rattle.batch_steps.specs.Graphs.{graph_file};
 ghost use Rattle.cli_words.specs.Words.{texts};

@@ -2,7 +2,6 @@
 use Rattle.std.proofs.Common.{◌≡◌, ℕ, ◌<◌, ◌≤◌, ◌^◌, List, length, Option, Some, None, refl, sym, subst}
 use Rattle.std.proofs.Common.{arith}
 use Rattle.std.specs.Prelude.{MatchOption}
-use Rattle.bolt_base.proofs.AfterLemmas.{no_vertex_lost}
 use Rattle.bolt_base.proofs.BadLemmas.{bad_first}
 use Rattle.bolt_base.proofs.GoodLemmas.{good_after, good_without}
 use Rattle.bolt_base.specs.Edits.{after, bad}
@@ -29,7 +28,7 @@ most_fit s edits safe good low = each (first_bad s edits) refl
         → visits_unless o (batch_visits s edits) < 2 ^ 64
     each None fine =
         batch_visits_fit s.program s.now (after s.now edits) s.choice.cut safe
-        (no_vertex_lost s.now edits) (good_without limits s.opened s.now good)
+        (good_without limits s.opened s.now good)
         (good_without limits s.opened (after s.now edits)
         (good_after (within limits s.opened) s.now edits good fine)) low
     each (Some at) refused = omega arith

@@ -7,7 +7,7 @@ ghost use Rattle.report_text.specs.Runs.{Run, run_steps};
 ghost use Rattle.engine_stream.specs.Taken.{taken};
 
 use crate::stream::run_stream;
-use batch_run::{Opened, refuse};
+use batch_run::{Opened, put_reply};
 use bolt_base::Gate;
 use bolt_io::{Shelf, Sink};
 use command_files::Stop;
@@ -35,7 +35,7 @@ pub fn finish_opened<S: Shelf, K: Sink, R: Threads + Sync, T: Gate + Sync>(
     ensures status { IfOk result (EndsWith opened) }
 {
     match opened {
-        Opened::Refused(refusal) => refuse(&refusal, out),
+        Opened::Refused(refusal) => put_reply(&refusal, out),
         Opened::Runs { text, run } => {
             run_stream(rt, alloc, gate, text.as_slice(), stream, run, shelf, out)
         }

@@ -5,8 +5,8 @@ use Rattle.bolt_base.specs.Graph.{Graph}
 use Rattle.bolt_io.specs.Told.{Told}
 use Rattle.vertex_expr.specs.declared.program.ProgramEntries.{ProgramEntries}
 use Rattle.batch_run.specs.Opened.{EndsWith, IsRun}
-use Rattle.batch_run.specs.declared.finish.Opened.{Opened}
-use Rattle.batch_run.specs.declared.finish.Opened.TheVariants.{Refused, Runs}
+use Rattle.batch_run.specs.declared.opened.Opened.{Opened}
+use Rattle.batch_run.specs.declared.opened.Opened.TheVariants.{Refused, Runs}
 use Rattle.batch_steps.specs.Files.{Content}
 use Rattle.batch_steps.specs.Steps.{IsMade, stream_slots}
 use Rattle.batch_steps.specs.declared.reply.Reply.{Reply}

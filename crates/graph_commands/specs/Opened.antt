@@ -1,7 +1,7 @@
 -- What the program and the graph of a command come to.
 use Rattle.std.specs.Prelude.{◌≡◌, ◌⊎◌, ℕ, ◌+◌, List, Result, Ok, Err}
-use Rattle.batch_run.specs.declared.finish.Opened.{Opened}
-use Rattle.batch_run.specs.declared.finish.Opened.TheVariants.{Refused, Runs}
+use Rattle.batch_run.specs.declared.opened.Opened.{Opened}
+use Rattle.batch_run.specs.declared.opened.Opened.TheVariants.{Refused, Runs}
 use Rattle.batch_steps.specs.Steps.{IsMade}
 use Rattle.batch_steps.specs.declared.reply.Reply.{Reply}
 use Rattle.cli_words.specs.declared.command.ProgramWord.{ProgramWord}

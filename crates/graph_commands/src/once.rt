@@ -14,7 +14,7 @@ ghost use Rattle.command_files.specs.Reads.{Reads};
 ghost use Rattle.command_files.specs.Stops.{BlamesShelf, IsOfReading};
 ghost use Rattle.graph_commands.specs.Opened.{once_read, IsOfOnce, RepliesToRead};
 
-use batch_run::refuse;
+use batch_run::put_reply;
 use batch_steps::Reply;
 use bolt_base::{GraphData, Memory};
 use bolt_io::{Shelf, Sink};
@@ -99,5 +99,5 @@ pub fn once_command<S: Shelf, K: Sink, R: Threads + Sync>(
     ensures decided { IfOk result (IsDecided (texts words.now)) }
 {
     let reply = read_reply(rt, alloc, words, program, graph, options, shelf)?;
-    refuse(&reply, out)
+    put_reply(&reply, out)
 }

@@ -1,7 +1,7 @@
 -- A batch that is read line by line is the batch of its lines.
-use Rattle.std.proofs.Common.{◌≡◌, ℕ, zero, suc, ◌+◌, ◌<◌, ◌≤◌, Bool, true, false, cond, List, []}
-use Rattle.std.proofs.Common.{◌∷◌, ◌++◌, length, take, refl, sym, ap, ◌∙◌, subst, arith}
-use Rattle.std.proofs.Common.{append_assoc, length-append, Option, Some, None}
+use Rattle.std.proofs.Common.{◌≡◌, ℕ, zero, suc, ◌+◌, ◌≤◌, Bool, true, false, cond, List, []}
+use Rattle.std.proofs.Common.{◌∷◌, ◌++◌, length, take, refl, sym, ap, ◌∙◌, arith}
+use Rattle.std.proofs.Common.{append_assoc, Option, Some, None}
 use Rattle.std.specs.Prelude.{is_some, nat_lt, slice_get, unwrap_or}
 use Rattle.std.specs.List.{prefix_len, slice_split, onto_first}
 use Rattle.std.proofs.lemmas.List.Sums.{take_while-cons}
@@ -19,7 +19,7 @@ use Rattle.graph_text.specs.declared.stream_lines.StreamLine.TheVariants.{Empty,
 use Rattle.graph_text.specs.declared.stream_lines.StreamLine.TheVariants.{Commit, Unknown}
 use Rattle.graph_text.specs.StreamText.{is_empty, is_known, is_commit, edits_in, edit_numbers}
 use Rattle.graph_text.specs.StreamText.{known_lines, bad_at, first_unknown, too_many_or, first_line}
-use Rattle.graph_text.specs.StreamText.{batch_of, batches_by}
+use Rattle.graph_text.specs.StreamText.{batches_by}
 use Rattle.graph_text.specs.OpenCode.{IsPaired, unopened, with_edit, with_unknown, with_line}
 use Rattle.graph_text.specs.OpenCode.{committed}
 

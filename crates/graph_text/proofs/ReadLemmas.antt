@@ -14,12 +14,12 @@ use Rattle.bolt_io.specs.declared.whole.TheConstants.{MOST_BYTES}
 use Rattle.bolt_io.specs.Told.{Told, left, taken_from}
 use Rattle.bolt_io.proofs.TakenLemmas.{left-taken_from}
 use Rattle.text_lines.specs.declared.line_feed.TheConstants.{BLOCK_BYTES}
-use Rattle.lexical.specs.Bytes.{is_line_feed, is_no_line_feed, without_carriage_return}
+use Rattle.lexical.specs.Bytes.{is_line_feed, is_no_line_feed}
 use Rattle.lexical.specs.Lines.{lines_by}
 use Rattle.text_lines.specs.Lines.{seen, seen_lines, seen_ended_lines, after_lines, lines_len}
 use Rattle.text_lines.specs.Feed.{Feed, fresh_feed, ahead, ended_within, ended_ahead, bytes_after}
-use Rattle.text_lines.specs.Feed.{rest, readable, answered, NeedsMore, MeetsLimit, Advances}
-use Rattle.text_lines.specs.Feed.{IsFront, IsLastLine}
+use Rattle.text_lines.specs.Feed.{rest, readable, answered, MeetsLimit, Advances}
+use Rattle.text_lines.specs.Feed.{IsFront}
 use Rattle.text_lines.specs.declared.feed.FeedError.{FeedError}
 use Rattle.text_lines.specs.declared.feed.FeedError.TheVariants.{Shelf, Turns, Memory}
 use Rattle.text_lines.specs.Reading.{StopsAt, IfMoreWanted as FeedIfMoreWanted}

@@ -24,8 +24,21 @@ fn vertex(vertex: u32) -> Edit {
     Edit::Attr { vertex, attr: 0 }
 }
 
-// The graph that edits make of nothing.
-fn graph_of(alloc: Global, accepted: &Accepted, edits: &[Edit]) -> Result<Graph, EditRefusal>
+/// The edges 0 1, 1 2, 2 0 and 0 2, and their vertices.
+pub fn edits() -> [Edit; 7] {
+    [
+        vertex(0),
+        vertex(1),
+        vertex(2),
+        add(0, 1),
+        add(1, 2),
+        add(2, 0),
+        add(0, 2),
+    ]
+}
+
+/// The graph that edits make of nothing.
+pub fn graph_of(alloc: Global, accepted: &Accepted, edits: &[Edit]) -> Result<Graph, EditRefusal>
     requires few { length edits.now ≤ 1000000 }
     ensures good { IfOk result (λ graph. IsGood accepted.now.limits graph.now) }
 {
@@ -38,22 +51,13 @@ fn graph_of(alloc: Global, accepted: &Accepted, edits: &[Edit]) -> Result<Graph,
     Ok(graph)
 }
 
-// A run along the edges 0 1, 1 2, 2 0 and 0 2, cut at iteration 2, and how many edges it read.
+// A run along these edges, cut at iteration 2, and how many edges it read.
 fn run_of<R: Threads + Sync>(rt: &R, alloc: Global, workers: u32) -> Result<(FirstRun, u64), Fail>
     requires some { 1 ≤ workers }
     requires few { workers ≤ 64 }
 {
-    let edits = [
-        vertex(0),
-        vertex(1),
-        vertex(2),
-        add(0, 1),
-        add(1, 2),
-        add(2, 0),
-        add(0, 2),
-    ];
     let accepted = check(alloc, rank_program(alloc)?)?;
-    let graph = graph_of(alloc, &accepted, &edits)?;
+    let graph = graph_of(alloc, &accepted, &edits())?;
     let mut meter = VisitMeter::new();
     let run = full_run(rt, alloc, &accepted, &graph, 2, workers, &mut meter);
     let visits = meter.finish();

@@ -13,7 +13,7 @@ ghost use Rattle.command_files.specs.Reads.{Reads};
 ghost use Rattle.command_files.specs.Stops.{BlamesShelf, IsOfReading};
 ghost use Rattle.reply_commands.specs.Checked.{checked};
 
-use batch_run::refuse;
+use batch_run::put_reply;
 use batch_steps::Reply;
 use bolt_base::Memory;
 use bolt_io::{Shelf, Sink};
@@ -81,5 +81,5 @@ pub fn check_command<S: Shelf, K: Sink>(
     ensures decided { IfOk result (IsDecided (texts words.now)) }
 {
     let reply = read_reply(alloc, words, program, shelf)?;
-    refuse(&reply, out)
+    put_reply(&reply, out)
 }

@@ -7,7 +7,7 @@ ghost use Rattle.cli_words.specs.Words.{texts};
 ghost use Rattle.cli_words.specs.declared.command.Command.TheVariants.{Make as MakeCommand};
 ghost use Rattle.command_course.specs.Still.{course, files_before, named, opened_with, IsDecided};
 
-use batch_run::refuse;
+use batch_run::put_reply;
 use bolt_base::Gate;
 use bolt_io::{Shelf, Sink};
 use cli_words::MakeForm;
@@ -43,5 +43,5 @@ pub fn make_command<S: Shelf, K: Sink, R: Threads + Sync, T: Gate + Sync>(
     ensures decided { IfOk result (IsDecided (texts words.now)) }
 {
     let reply = make_reply(rt, alloc, gate, seed, vertices, pairs, batches, edits, form)?;
-    refuse(&reply, out)
+    put_reply(&reply, out)
 }

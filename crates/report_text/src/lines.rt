@@ -6,7 +6,7 @@ ghost use Rattle.report_text.specs.Lines.{end_line, once_line};
 use bolt_base::{Bytes, Memory};
 
 /// Appends a number behind its label.
-pub(crate) fn push_labelled(out: &mut Bytes, label: &[u8], n: u64) -> Result<(), Memory>
+pub fn push_labelled(out: &mut Bytes, label: &[u8], n: u64) -> Result<(), Memory>
     ensures { OnOk result (out.new ≡ out.old ++ labelled label.now n) }
 {
     out.extend_from_slice(label)?;
@@ -45,8 +45,8 @@ pub fn push_open(out: &mut Bytes, graph: OpenNumbers) -> Result<(), Memory>
     Ok(())
 }
 
-/// The numbers of an accepted batch: its own, counted from 1, those of added and removed edges, that
-/// of all edges, the entries that are kept, and the edges that were read.
+/// The numbers of an accepted batch: its own, counted from 1, those of added and removed edges,
+/// that of all edges, the entries that are kept, and the edges that were read.
 #[derive(Clone, Copy, Debug)]
 pub struct BatchNumbers {
     pub number: u64,

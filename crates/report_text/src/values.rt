@@ -10,7 +10,7 @@ use itoa::Buffer;
 use vertex_steps::ValueRow;
 
 /// Appends a number behind a space.
-pub(crate) fn push_lane(out: &mut Bytes, x: i128) -> Result<(), Memory>
+pub fn push_lane(out: &mut Bytes, x: i128) -> Result<(), Memory>
     ensures { OnOk result (out.new ≡ out.old ++ lane_word x) }
 {
     let mut buffer = Buffer::new();
@@ -19,8 +19,8 @@ pub(crate) fn push_lane(out: &mut Bytes, x: i128) -> Result<(), Memory>
     Ok(())
 }
 
-// Appends the lanes of a value.
-fn push_lanes(out: &mut Bytes, value: &[i64]) -> Result<(), Memory>
+/// Appends the lanes of a value.
+pub fn push_lanes(out: &mut Bytes, value: &[i64]) -> Result<(), Memory>
     ensures { OnOk result (out.new ≡ out.old ++ lane_words value.now) }
 {
     for x in value {

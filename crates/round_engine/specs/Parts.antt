@@ -16,7 +16,8 @@ use Rattle.round_engine.specs.EngineOf.{IsAnswerOf, IsHistoryOf, IsChoice}
 use Rattle.round_engine.specs.declared.parts.Answered.{Answered}
 use Rattle.round_engine.specs.declared.parts.Refined.{Refined}
 
--- a change leads from a good graph to another one, and the history is that of a run on the first one
+-- a change leads from a good graph to another one, and the history is that of a run on the first
+-- one
 pub record IsStepOf (p : ProgramEntries) (choice : Choice) (g h : Graph) (change : Change)
     (history : HistoryState) : Type 0 where
   pub chosen : IsChoice p choice

@@ -12,9 +12,9 @@ use Rattle.round_engine.specs.EngineOf.{IsAnswerOf}
 use Rattle.round_engine.specs.State.{EngineState}
 use Rattle.round_engine.specs.declared.prepared.Prepared.{Prepared}
 
--- it leads an engine to a graph: its edits make it, its change is the net change to it, what it puts
--- over the rows makes those of that graph, its answer is the one there, and it tells what changes in
--- the answer and how many edges were read
+-- it leads an engine to a graph: its edits make it, its change is the net change to it, what it
+-- puts over the rows makes those of that graph, its answer is the one there, and it tells what
+-- changes in the answer and how many edges were read
 pub record LeadsTo (s : EngineState) (h : Graph) (x : Prepared) : Type 0 where
   pub made : h ≡ after s.now x.edits
   pub net : IsChange s.now h x.change

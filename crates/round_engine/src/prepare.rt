@@ -1,10 +1,10 @@
 // How a batch is prepared.
-ghost use Rattle.std.specs.Prelude.{◌≡◌, ◌+◌, ◌<◌, ◌≤◌, ◌^◌, None, IsSome, IfErr, IfOk, OnErr, OnOk};
-ghost use Rattle.std.specs.Prelude.{length};
+ghost use Rattle.std.specs.Prelude.{◌≡◌, ◌+◌, ◌<◌, ◌≤◌, ◌^◌, None, IsSome, IfErr, IfOk};
+ghost use Rattle.std.specs.Prelude.{OnErr, OnOk, length};
 ghost use Rattle.adjacency.specs.declared.change.TheConstants.{MOST_EDITS};
 ghost use Rattle.round_engine.specs.Prepared.{IsPreparedBy};
-ghost use Rattle.round_engine.specs.Preparing.{IsBatchRefusal, batch_visits, first_bad, most_visits};
-ghost use Rattle.round_engine.specs.Preparing.{prepared_state};
+ghost use Rattle.round_engine.specs.Preparing.{IsBatchRefusal, batch_visits, first_bad};
+ghost use Rattle.round_engine.specs.Preparing.{most_visits, prepared_state};
 
 use crate::engine::Engine;
 use crate::parts::{Answered, Refined, refine_parts};

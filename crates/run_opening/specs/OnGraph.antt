@@ -1,7 +1,7 @@
 -- What the opening of a run on a graph comes to.
 use Rattle.std.specs.Prelude.{◌≡◌, ℕ, List}
-use Rattle.batch_run.specs.declared.finish.Opened.{Opened}
-use Rattle.batch_run.specs.declared.finish.Opened.TheVariants.{Refused, Runs}
+use Rattle.batch_run.specs.declared.opened.Opened.{Opened}
+use Rattle.batch_run.specs.declared.opened.Opened.TheVariants.{Refused, Runs}
 use Rattle.bolt_base.specs.Graph.{Graph}
 use Rattle.vertex_expr.specs.declared.program.ProgramEntries.{ProgramEntries}
 use Rattle.cli_words.specs.declared.command.RunOptions.{RunOptions}

@@ -13,6 +13,8 @@ use Rattle.vertex_expr.specs.Writable.{scope_in, names_of, values_of}
 use Rattle.vertex_expr.specs.declared.expr.Part.TheVariants.{Init as InitPart}
 use Rattle.vertex_expr.specs.declared.expr.Part.TheVariants.{Contribute as ContributePart}
 use Rattle.vertex_expr.specs.declared.expr.Part.TheVariants.{Apply as ApplyPart}
+use Rattle.bolt_base.specs.declared.limits.Limits.{Limits}
+use Rattle.vertex_expr.specs.declared.program.Combine.{Combine}
 use Rattle.vertex_expr.specs.declared.program.LaneRange.{LaneRange}
 use Rattle.vertex_expr.specs.declared.program.NamedParam.{NamedParam}
 use Rattle.vertex_expr.specs.declared.program.ProgramEntries.{ProgramEntries}
@@ -32,7 +34,7 @@ use Rattle.vertex_lang.specs.Entries.{least_i64, greatest_i64, range_at, combine
 use Rattle.vertex_lang.specs.Entries.{param, param_at, index_at, lane_at}
 use Rattle.vertex_lang.specs.Entries.{tree_at, entry_at}
 use Rattle.vertex_lang.specs.Drafts.{is_full}
-use Rattle.vertex_lang.proofs.GoodDrafts.{IsAttrRange, IsBegun}
+use Rattle.vertex_lang.proofs.GoodDrafts.{IsAttrRange, IsBegun, HasTrees}
 use Rattle.vertex_lang.proofs.GoodDrafts.{IsGood, IsAdmitted}
 use Rattle.vertex_lang.proofs.EntryFacts.{fits_between, RangeFits, range_on, combine_on, All-push}
 use Rattle.vertex_lang.proofs.EntryFacts.{name_pushed, TreeFits, tree_on}
@@ -41,27 +43,70 @@ use Rattle.vertex_lang.proofs.EntryFacts.{name_pushed, TreeFits, tree_on}
 kept_begun : (s t : ℕ) (g h : ProgramEntries) → 8 ≤ s → h.name ≡ g.name → h.limits ≡ g.limits
     → h.rounds ≡ g.rounds → h.combine ≡ g.combine → IsBegun s g → IsBegun t h
 kept_begun s t g h late name limits rounds combine b =
-    let L = Rattle.bolt_base.specs.declared.limits.Limits.Limits in
     record {
       name = λ l. ap is_name name ∙ b.name (omega arith);
       vertices =
-          λ l. let P : L → Type 0 = λ x. IsWithin 1 1000000 x.vertices in subst P (sym limits)
-          (b.vertices (omega arith));
+          λ l. let P : Limits → Type 0 = λ x. IsWithin 1 1000000 x.vertices in
+          subst P (sym limits) (b.vertices (omega arith));
       degree =
-          λ l. let P : L → Type 0 = λ x. IsWithin 1 1000000 x.degree in subst P (sym limits)
-          (b.degree (omega arith));
+          λ l. let P : Limits → Type 0 = λ x. IsWithin 1 1000000 x.degree in
+          subst P (sym limits) (b.degree (omega arith));
       edges =
-          λ l. let P : L → Type 0 = λ x. IsWithin 1 8000000 x.edges in subst P (sym limits)
-          (b.edges (omega arith));
+          λ l. let P : Limits → Type 0 = λ x. IsWithin 1 8000000 x.edges in
+          subst P (sym limits) (b.edges (omega arith));
       weight =
-          λ l. let P : L → Type 0 = λ x. IsRange x.weight_lo x.weight_hi in subst P (sym limits)
-          (b.weight (omega arith));
+          λ l. let P : Limits → Type 0 = λ x. IsRange x.weight_lo x.weight_hi in
+          subst P (sym limits) (b.weight (omega arith));
       attr =
-          λ l. let P : L → Type 0 = λ x. IsAttrRange x.attr_lo x.attr_hi in subst P (sym limits)
-          (b.attr (omega arith));
+          λ l. let P : Limits → Type 0 = λ x. IsAttrRange x.attr_lo x.attr_hi in
+          subst P (sym limits) (b.attr (omega arith));
       rounds = λ l. subst (IsWithin 1 64) (sym rounds) (b.rounds (omega arith));
       combine = λ l. subst IsCombination (sym combine) (b.combine late);
     }
+
+-- with no expression before its part, the list of a part is empty and fits
+no_trees : (s : Scope) (ts : List Tree) → ts ≡ [] → All (IsTextTree s) ts
+no_trees s ts e =
+    let P : List Tree → Type 0 = λ l. All (IsTextTree s) l in
+    subst P (sym e) (λ k x l. absurd (omega arith))
+
+-- before the expressions begin there are none, whatever else is entered
+bare_trees : (s t : ℕ) (g h : ProgramEntries) → s ≤ 10 → HasTrees s g → h.init ≡ g.init
+    → h.contribute ≡ g.contribute → h.apply ≡ g.apply → HasTrees t h
+bare_trees s t g h early old init contribute apply =
+    let none = init ∙ old.no_init early in
+    let none' = contribute ∙ old.no_contribute (omega arith) in
+    let none'' = apply ∙ old.no_apply (omega arith) in
+    let empty = ap (λ (l : List Tree). length l) none in
+    let empty' = ap (λ (l : List Tree). length l) none' in
+    let empty'' = ap (λ (l : List Tree). length l) none'' in
+    record {
+      no_init = λ l. none;
+      no_contribute = λ l. none';
+      no_apply = λ l. none'';
+      few_init = omega arith;
+      few_contribute = omega arith;
+      few_apply = omega arith;
+      init = no_trees (scope_in h InitPart) h.init none;
+      contribute = no_trees (scope_in h ContributePart) h.contribute none';
+      apply = no_trees (scope_in h ApplyPart) h.apply none'';
+    }
+
+-- the entries with others of those that stand once
+abbrev headed : ProgramEntries → List ℕ → Limits → ℕ → Combine → ProgramEntries
+headed g name limits rounds combine =
+    record g { name = name; limits = limits; rounds = rounds; combine = combine }
+
+-- an entry that stands once leaves what stands after it alone
+once_kept : (s t : ℕ) (g : ProgramEntries) (name : List ℕ) (limits : Limits) (rounds : ℕ)
+    (combine : Combine) → s ≤ 10 → IsGood s g → IsBegun t (headed g name limits rounds combine)
+    → IsGood t (headed g name limits rounds combine)
+once_kept s t g name limits rounds combine early h begun = record {
+  begun = begun;
+  params = record { few = h.params.few; names = h.params.names; values = h.params.values };
+  lanes = record { few = h.lanes.few; each = h.lanes.each };
+  trees = bare_trees s t g (headed g name limits rounds combine) early h.trees refl refl refl;
+}
 
 abbrev Next : Draft → Keyword → ProgramEntries × ℕ → Type 0
 Next d k r = IsGood (order k + 1) r.0
@@ -70,313 +115,168 @@ program_kept : (d : Draft) (line : List ℕ) (p : ℕ) → IsGood d.stage d.entr
     → On (Next d Program) (entry_at d.entries Program line p)
 unfolding entry_at
 program_kept d line p h is =
+    let g = d.entries in
     on_then (λ w. is_name w.bytes ≡ true) (Next d Program) (name_at line p)
-    (λ w. Ok (record d.entries { name = w.bytes }, word_end w)) (name_on line p)
-    (λ x w. record {
-      begun =
-          record {
-            name = λ l. w;
-            vertices = λ l. absurd (omega arith);
-            degree = λ l. absurd
-                (omega arith);
-            edges = λ l. absurd (omega arith);
-            weight = λ l. absurd (omega arith);
-            attr = λ l. absurd (omega arith);
-            rounds = λ l. absurd (omega arith);
-            combine = λ l.
-                absurd (omega arith);
-          };
-      params = record { few = h.params.few; names = h.params.names; values = h.params.values };
-      lanes = record { few = h.lanes.few; each = h.lanes.each };
-      trees =
-          record {
-            no_init = λ l. h.trees.no_init (omega arith);
-            no_contribute = λ l.
-                h.trees.no_contribute (omega arith);
-            no_apply = λ l. h.trees.no_apply (omega arith);
-            few_init = h.trees.few_init;
-            few_contribute = h.trees.few_contribute;
-            few_apply = h.trees.few_apply;
-            init = h.trees.init;
-            contribute = h.trees.contribute;
-            apply = h.trees.apply;
-          };
-    })
+    (λ w. Ok (record g { name = w.bytes }, word_end w)) (name_on line p)
+    (λ x w. once_kept d.stage 1 g x.bytes g.limits g.rounds g.combine (omega arith) h (record {
+      name = λ l. w;
+      vertices = λ l. absurd (omega arith);
+      degree = λ l. absurd (omega arith);
+      edges = λ l. absurd (omega arith);
+      weight = λ l. absurd (omega arith);
+      attr = λ l. absurd (omega arith);
+      rounds = λ l. absurd (omega arith);
+      combine = λ l. absurd (omega arith);
+    }))
 
 vertices_kept : (d : Draft) (line : List ℕ) (p : ℕ) → IsGood d.stage d.entries → d.stage ≡ 1
     → On (Next d Vertices) (entry_at d.entries Vertices line p)
 unfolding entry_at
 vertices_kept d line p h is =
+    let g = d.entries in
     on_then (λ n. IsWithin 1 1000000 n.0) (Next d Vertices) (number_at line p 1 1000000)
-    (λ n. Ok (record d.entries { limits = record d.entries.limits { vertices = n.0 } }, n.1))
-    (number_on line p 1 1000000) (λ x w. record {
-      begun =
-          record {
-            name = λ l. h.begun.name (omega arith);
-            vertices = λ l. w;
-            degree = λ l. absurd
-                (omega arith);
-            edges = λ l. absurd (omega arith);
-            weight = λ l. absurd (omega arith);
-            attr = λ l. absurd (omega arith);
-            rounds = λ l. absurd (omega arith);
-            combine = λ l.
-                absurd (omega arith);
-          };
-      params = record { few = h.params.few; names = h.params.names; values = h.params.values };
-      lanes = record { few = h.lanes.few; each = h.lanes.each };
-      trees =
-          record {
-            no_init = λ l. h.trees.no_init (omega arith);
-            no_contribute = λ l.
-                h.trees.no_contribute (omega arith);
-            no_apply = λ l. h.trees.no_apply (omega arith);
-            few_init = h.trees.few_init;
-            few_contribute = h.trees.few_contribute;
-            few_apply = h.trees.few_apply;
-            init = h.trees.init;
-            contribute = h.trees.contribute;
-            apply = h.trees.apply;
-          };
-    })
+    (λ n. Ok (record g { limits = record g.limits { vertices = n.0 } }, n.1))
+    (number_on line p 1 1000000)
+    (λ x w. once_kept d.stage 2 g g.name (record g.limits { vertices = x.0 }) g.rounds g.combine
+    (omega arith) h (record {
+      name = λ l. h.begun.name (omega arith);
+      vertices = λ l. w;
+      degree = λ l. absurd (omega arith);
+      edges = λ l. absurd (omega arith);
+      weight = λ l. absurd (omega arith);
+      attr = λ l. absurd (omega arith);
+      rounds = λ l. absurd (omega arith);
+      combine = λ l. absurd (omega arith);
+    }))
 
 degree_kept : (d : Draft) (line : List ℕ) (p : ℕ) → IsGood d.stage d.entries → d.stage ≡ 2
     → On (Next d Degree) (entry_at d.entries Degree line p)
 unfolding entry_at
 degree_kept d line p h is =
+    let g = d.entries in
     on_then (λ n. IsWithin 1 1000000 n.0) (Next d Degree) (number_at line p 1 1000000)
-    (λ n. Ok (record d.entries { limits = record d.entries.limits { degree = n.0 } }, n.1))
-    (number_on line p 1 1000000) (λ x w. record {
-      begun =
-          record {
-            name = λ l. h.begun.name (omega arith);
-            vertices = λ l. h.begun.vertices
-                (omega arith);
-            degree = λ l. w;
-            edges = λ l. absurd (omega arith);
-            weight = λ l. absurd
-                (omega arith);
-            attr = λ l. absurd (omega arith);
-            rounds = λ l. absurd (omega arith);
-            combine = λ l. absurd (omega arith);
-          };
-      params = record { few = h.params.few; names = h.params.names; values = h.params.values };
-      lanes = record { few = h.lanes.few; each = h.lanes.each };
-      trees =
-          record {
-            no_init = λ l. h.trees.no_init (omega arith);
-            no_contribute = λ l.
-                h.trees.no_contribute (omega arith);
-            no_apply = λ l. h.trees.no_apply (omega arith);
-            few_init = h.trees.few_init;
-            few_contribute = h.trees.few_contribute;
-            few_apply = h.trees.few_apply;
-            init = h.trees.init;
-            contribute = h.trees.contribute;
-            apply = h.trees.apply;
-          };
-    })
+    (λ n. Ok (record g { limits = record g.limits { degree = n.0 } }, n.1))
+    (number_on line p 1 1000000)
+    (λ x w. once_kept d.stage 3 g g.name (record g.limits { degree = x.0 }) g.rounds g.combine
+    (omega arith) h (record {
+      name = λ l. h.begun.name (omega arith);
+      vertices = λ l. h.begun.vertices (omega arith);
+      degree = λ l. w;
+      edges = λ l. absurd (omega arith);
+      weight = λ l. absurd (omega arith);
+      attr = λ l. absurd (omega arith);
+      rounds = λ l. absurd (omega arith);
+      combine = λ l. absurd (omega arith);
+    }))
 
 edges_kept : (d : Draft) (line : List ℕ) (p : ℕ) → IsGood d.stage d.entries → d.stage ≡ 3
     → On (Next d Edges) (entry_at d.entries Edges line p)
 unfolding entry_at
 edges_kept d line p h is =
+    let g = d.entries in
     on_then (λ n. IsWithin 1 8000000 n.0) (Next d Edges) (number_at line p 1 8000000)
-    (λ n. Ok (record d.entries { limits = record d.entries.limits { edges = n.0 } }, n.1))
-    (number_on line p 1 8000000) (λ x w. record {
-      begun =
-          record {
-            name = λ l. h.begun.name (omega arith);
-            vertices = λ l. h.begun.vertices
-                (omega arith);
-            degree = λ l. h.begun.degree (omega arith);
-            edges = λ l. w;
-            weight = λ l.
-                absurd (omega arith);
-            attr = λ l. absurd (omega arith);
-            rounds = λ l. absurd
-                (omega arith);
-            combine = λ l. absurd (omega arith);
-          };
-      params = record { few = h.params.few; names = h.params.names; values = h.params.values };
-      lanes = record { few = h.lanes.few; each = h.lanes.each };
-      trees =
-          record {
-            no_init = λ l. h.trees.no_init (omega arith);
-            no_contribute = λ l.
-                h.trees.no_contribute (omega arith);
-            no_apply = λ l. h.trees.no_apply (omega arith);
-            few_init = h.trees.few_init;
-            few_contribute = h.trees.few_contribute;
-            few_apply = h.trees.few_apply;
-            init = h.trees.init;
-            contribute = h.trees.contribute;
-            apply = h.trees.apply;
-          };
-    })
+    (λ n. Ok (record g { limits = record g.limits { edges = n.0 } }, n.1))
+    (number_on line p 1 8000000)
+    (λ x w. once_kept d.stage 4 g g.name (record g.limits { edges = x.0 }) g.rounds g.combine
+    (omega arith) h (record {
+      name = λ l. h.begun.name (omega arith);
+      vertices = λ l. h.begun.vertices (omega arith);
+      degree = λ l. h.begun.degree (omega arith);
+      edges = λ l. w;
+      weight = λ l. absurd (omega arith);
+      attr = λ l. absurd (omega arith);
+      rounds = λ l. absurd (omega arith);
+      combine = λ l. absurd (omega arith);
+    }))
 
 weight_kept : (d : Draft) (line : List ℕ) (p : ℕ) → IsGood d.stage d.entries → d.stage ≡ 4
     → On (Next d Weight) (entry_at d.entries Weight line p)
 unfolding entry_at
 weight_kept d line p h is =
+    let g = d.entries in
     on_then (RangeFits greatest_i64 least_i64) (Next d Weight)
     (range_at line p greatest_i64 least_i64)
     (λ r. Ok (
-      record d.entries {
-        limits = record d.entries.limits
-            { weight_lo = r.0.lo; weight_hi = r.0.hi };
+      record g {
+        limits = record g.limits { weight_lo = r.0.lo; weight_hi = r.0.hi };
       },
       r.1,
     ))
-    (range_on line p greatest_i64 least_i64 (omega (arith, ints))) (λ x w. record {
-      begun =
-          record {
-            name = λ l. h.begun.name (omega arith);
-            vertices = λ l. h.begun.vertices
-                (omega arith);
-            degree = λ l. h.begun.degree (omega arith);
-            edges = λ l. h.begun.edges
-                (omega arith);
-            weight = λ l. w.0;
-            attr = λ l. absurd (omega arith);
-            rounds = λ l. absurd
-                (omega arith);
-            combine = λ l. absurd (omega arith);
-          };
-      params = record { few = h.params.few; names = h.params.names; values = h.params.values };
-      lanes = record { few = h.lanes.few; each = h.lanes.each };
-      trees =
-          record {
-            no_init = λ l. h.trees.no_init (omega arith);
-            no_contribute = λ l.
-                h.trees.no_contribute (omega arith);
-            no_apply = λ l. h.trees.no_apply (omega arith);
-            few_init = h.trees.few_init;
-            few_contribute = h.trees.few_contribute;
-            few_apply = h.trees.few_apply;
-            init = h.trees.init;
-            contribute = h.trees.contribute;
-            apply = h.trees.apply;
-          };
-    })
+    (range_on line p greatest_i64 least_i64 (omega (arith, ints)))
+    (λ x w. once_kept d.stage 5 g g.name
+    (record g.limits { weight_lo = x.0.lo; weight_hi = x.0.hi }) g.rounds g.combine
+    (omega arith) h (record {
+      name = λ l. h.begun.name (omega arith);
+      vertices = λ l. h.begun.vertices (omega arith);
+      degree = λ l. h.begun.degree (omega arith);
+      edges = λ l. h.begun.edges (omega arith);
+      weight = λ l. w.0;
+      attr = λ l. absurd (omega arith);
+      rounds = λ l. absurd (omega arith);
+      combine = λ l. absurd (omega arith);
+    }))
 
 attr_kept : (d : Draft) (line : List ℕ) (p : ℕ) → IsGood d.stage d.entries → d.stage ≡ 5
     → On (Next d Attr) (entry_at d.entries Attr line p)
 unfolding entry_at
 attr_kept d line p h is =
+    let g = d.entries in
     on_then (RangeFits (pos 0) (pos 0)) (Next d Attr) (range_at line p (pos 0) (pos 0))
     (λ r. Ok (
-      record d.entries {
-        limits = record d.entries.limits
-            { attr_lo = r.0.lo; attr_hi = r.0.hi };
+      record g {
+        limits = record g.limits { attr_lo = r.0.lo; attr_hi = r.0.hi };
       },
       r.1,
     ))
-    (range_on line p (pos 0) (pos 0) (omega (arith, ints))) (λ x w. record {
-      begun =
-          record {
-            name = λ l. h.begun.name (omega arith);
-            vertices = λ l. h.begun.vertices
-                (omega arith);
-            degree = λ l. h.begun.degree (omega arith);
-            edges = λ l. h.begun.edges
-                (omega arith);
-            weight = λ l. h.begun.weight (omega arith);
-            attr = λ l. record
-                { range = w.0; least = w.1; most = w.2 };
-            rounds = λ l. absurd (omega arith);
-            combine = λ l. absurd (omega arith);
-          };
-      params = record { few = h.params.few; names = h.params.names; values = h.params.values };
-      lanes = record { few = h.lanes.few; each = h.lanes.each };
-      trees =
-          record {
-            no_init = λ l. h.trees.no_init (omega arith);
-            no_contribute = λ l.
-                h.trees.no_contribute (omega arith);
-            no_apply = λ l. h.trees.no_apply (omega arith);
-            few_init = h.trees.few_init;
-            few_contribute = h.trees.few_contribute;
-            few_apply = h.trees.few_apply;
-            init = h.trees.init;
-            contribute = h.trees.contribute;
-            apply = h.trees.apply;
-          };
-    })
+    (range_on line p (pos 0) (pos 0) (omega (arith, ints)))
+    (λ x w. once_kept d.stage 6 g g.name
+    (record g.limits { attr_lo = x.0.lo; attr_hi = x.0.hi }) g.rounds g.combine
+    (omega arith) h (record {
+      name = λ l. h.begun.name (omega arith);
+      vertices = λ l. h.begun.vertices (omega arith);
+      degree = λ l. h.begun.degree (omega arith);
+      edges = λ l. h.begun.edges (omega arith);
+      weight = λ l. h.begun.weight (omega arith);
+      attr = λ l. record { range = w.0; least = w.1; most = w.2 };
+      rounds = λ l. absurd (omega arith);
+      combine = λ l. absurd (omega arith);
+    }))
 
 rounds_kept : (d : Draft) (line : List ℕ) (p : ℕ) → IsGood d.stage d.entries → d.stage ≡ 6
     → On (Next d Rounds) (entry_at d.entries Rounds line p)
 unfolding entry_at
 rounds_kept d line p h is =
+    let g = d.entries in
     on_then (λ n. IsWithin 1 64 n.0) (Next d Rounds) (number_at line p 1 64)
-    (λ n. Ok (record d.entries { rounds = n.0 }, n.1)) (number_on line p 1 64) (λ x w. record {
-      begun =
-          record {
-            name = λ l. h.begun.name (omega arith);
-            vertices = λ l. h.begun.vertices
-                (omega arith);
-            degree = λ l. h.begun.degree (omega arith);
-            edges = λ l. h.begun.edges
-                (omega arith);
-            weight = λ l. h.begun.weight (omega arith);
-            attr = λ l. h.begun.attr
-                (omega arith);
-            rounds = λ l. w;
-            combine = λ l. absurd (omega arith);
-          };
-      params = record { few = h.params.few; names = h.params.names; values = h.params.values };
-      lanes = record { few = h.lanes.few; each = h.lanes.each };
-      trees =
-          record {
-            no_init = λ l. h.trees.no_init (omega arith);
-            no_contribute = λ l.
-                h.trees.no_contribute (omega arith);
-            no_apply = λ l. h.trees.no_apply (omega arith);
-            few_init = h.trees.few_init;
-            few_contribute = h.trees.few_contribute;
-            few_apply = h.trees.few_apply;
-            init = h.trees.init;
-            contribute = h.trees.contribute;
-            apply = h.trees.apply;
-          };
-    })
+    (λ n. Ok (record g { rounds = n.0 }, n.1)) (number_on line p 1 64)
+    (λ x w. once_kept d.stage 7 g g.name g.limits x.0 g.combine (omega arith) h (record {
+      name = λ l. h.begun.name (omega arith);
+      vertices = λ l. h.begun.vertices (omega arith);
+      degree = λ l. h.begun.degree (omega arith);
+      edges = λ l. h.begun.edges (omega arith);
+      weight = λ l. h.begun.weight (omega arith);
+      attr = λ l. h.begun.attr (omega arith);
+      rounds = λ l. w;
+      combine = λ l. absurd (omega arith);
+    }))
 
 combine_kept : (d : Draft) (line : List ℕ) (p : ℕ) → IsGood d.stage d.entries → d.stage ≡ 7
     → On (Next d CombineWord) (entry_at d.entries CombineWord line p)
 unfolding entry_at
 combine_kept d line p h is =
+    let g = d.entries in
     on_then (λ r. IsCombination r.0) (Next d CombineWord) (combine_at line p)
-    (λ c. Ok (record d.entries { combine = c.0 }, c.1)) (combine_on line p) (λ x w. record {
-      begun =
-          record {
-            name = λ l. h.begun.name (omega arith);
-            vertices = λ l. h.begun.vertices
-                (omega arith);
-            degree = λ l. h.begun.degree (omega arith);
-            edges = λ l. h.begun.edges
-                (omega arith);
-            weight = λ l. h.begun.weight (omega arith);
-            attr = λ l. h.begun.attr
-                (omega arith);
-            rounds = λ l. h.begun.rounds (omega arith);
-            combine = λ l. w;
-          };
-      params = record { few = h.params.few; names = h.params.names; values = h.params.values };
-      lanes = record { few = h.lanes.few; each = h.lanes.each };
-      trees =
-          record {
-            no_init = λ l. h.trees.no_init (omega arith);
-            no_contribute = λ l.
-                h.trees.no_contribute (omega arith);
-            no_apply = λ l. h.trees.no_apply (omega arith);
-            few_init = h.trees.few_init;
-            few_contribute = h.trees.few_contribute;
-            few_apply = h.trees.few_apply;
-            init = h.trees.init;
-            contribute = h.trees.contribute;
-            apply = h.trees.apply;
-          };
-    })
+    (λ c. Ok (record g { combine = c.0 }, c.1)) (combine_on line p)
+    (λ x w. once_kept d.stage 8 g g.name g.limits g.rounds x.0 (omega arith) h (record {
+      name = λ l. h.begun.name (omega arith);
+      vertices = λ l. h.begun.vertices (omega arith);
+      degree = λ l. h.begun.degree (omega arith);
+      edges = λ l. h.begun.edges (omega arith);
+      weight = λ l. h.begun.weight (omega arith);
+      attr = λ l. h.begun.attr (omega arith);
+      rounds = λ l. h.begun.rounds (omega arith);
+      combine = λ l. w;
+    }))
 
 param_kept : (d : Draft) (line : List ℕ) (p : ℕ) → IsGood d.stage d.entries → 8 ≤ d.stage
     → d.stage ≤ 9 → length d.entries.params < 64
@@ -397,11 +297,6 @@ param_kept d line p h late early room =
     (signed_on line (word_end w) least_i64 greatest_i64)
     (λ x z. pushed_param w.bytes x.0 is free (fits_between x.0 z.0 z.1))))
   where
-    none : (s : Scope) (ts : List Tree) → ts ≡ [] → All (IsTextTree s) ts
-    none s ts e =
-        let P : List Tree → Type 0 = λ l. All (IsTextTree s) l in
-        subst P (sym e) (λ k x l. absurd (omega arith))
-
     pushed_param : (w : List ℕ) (z : ℤ) → is_name w ≡ true
         → is_taken (names_of d.entries.params) w ≡ false → FitsSigned w64 z
         → IsGood 9 (record d.entries { params = d.entries.params ++ param w z ∷ [] })
@@ -422,19 +317,7 @@ param_kept d line p h late early room =
                 (All-push (FitsSigned w64) (values_of g.params) z h.params.values fits);
           };
           lanes = record { few = h.lanes.few; each = h.lanes.each };
-          trees = record {
-            no_init = λ l. h.trees.no_init (omega arith);
-            no_contribute = λ l. h.trees.no_contribute (omega arith);
-            no_apply = λ l. h.trees.no_apply (omega arith);
-            few_init = h.trees.few_init;
-            few_contribute = h.trees.few_contribute;
-            few_apply = h.trees.few_apply;
-            init = none (scope_in next InitPart) g.init (h.trees.no_init (omega arith));
-            contribute =
-                none (scope_in next ContributePart) g.contribute
-                (h.trees.no_contribute (omega arith));
-            apply = none (scope_in next ApplyPart) g.apply (h.trees.no_apply (omega arith));
-          };
+          trees = bare_trees d.stage 9 g next (omega arith) h.trees refl refl refl;
         }
 
 lane_kept : (d : Draft) (line : List ℕ) (p : ℕ) → IsGood d.stage d.entries → 8 ≤ d.stage
@@ -451,11 +334,6 @@ lane_kept d line p h late early room =
     (λ r. Ok (record g { ranges = g.ranges ++ r.0 ∷ [] }, r.1))
     (range_on line q greatest_i64 least_i64 (omega (arith, ints))) (λ r i. pushed_lane r.0 i.0))
   where
-    none : (s : Scope) (ts : List Tree) → ts ≡ [] → All (IsTextTree s) ts
-    none s ts e =
-        let P : List Tree → Type 0 = λ l. All (IsTextTree s) l in
-        subst P (sym e) (λ k x l. absurd (omega arith))
-
     pushed_lane : (r : LaneRange) → IsRange r.lo r.hi
         → IsGood 10 (record d.entries { ranges = d.entries.ranges ++ r ∷ [] })
     pushed_lane r i =
@@ -471,19 +349,7 @@ lane_kept d line p h late early room =
                 each = All-push
                     (λ (x : LaneRange). IsRange x.lo x.hi) g.ranges r h.lanes.each i;
               };
-          trees = record {
-            no_init = λ l. h.trees.no_init (omega arith);
-            no_contribute = λ l. h.trees.no_contribute (omega arith);
-            no_apply = λ l. h.trees.no_apply (omega arith);
-            few_init = let m = h.trees.few_init in omega (arith, more);
-            few_contribute = let m = h.trees.few_contribute in omega (arith, more);
-            few_apply = let m = h.trees.few_apply in omega (arith, more);
-            init = none (scope_in next InitPart) g.init (h.trees.no_init (omega arith));
-            contribute =
-                none (scope_in next ContributePart) g.contribute
-                (h.trees.no_contribute (omega arith));
-            apply = none (scope_in next ApplyPart) g.apply (h.trees.no_apply (omega arith));
-          };
+          trees = bare_trees d.stage 10 g next (omega arith) h.trees refl refl refl;
         }
 
 init_kept : (d : Draft) (line : List ℕ) (p : ℕ) → IsGood d.stage d.entries → 8 ≤ d.stage

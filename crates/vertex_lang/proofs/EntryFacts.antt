@@ -1,5 +1,5 @@
 -- What the fields of entries that are right are like.
-use Rattle.std.proofs.Common.{◌≡◌, w64, ℕ, ℤ, pos, negsuc, ◌+◌, ◌<◌, ◌≤◌, ◌≤ℤ◌, Bool, true, false}
+use Rattle.std.proofs.Common.{◌≡◌, w64, ℕ, ℤ, pos, negsuc, ◌+◌, ◌<◌, ◌≤ℤ◌, Bool, true, false}
 use Rattle.std.proofs.Common.{cond, List, [], ◌∷◌, ◌++◌, length, take, Option, Some, None}
 use Rattle.std.proofs.Common.{Result, Ok, Err, refl, sym, ◌∙◌, ap, arith, length-append}
 use Rattle.std.proofs.Common.{zero, suc}
@@ -27,7 +27,6 @@ use Rattle.text_words.specs.declared.error.Keyword.{Keyword}
 use Rattle.text_words.proofs.FieldFacts.{On, on_then, on_any, on_test, on_of, signed_on}
 use Rattle.expr_text.specs.Expressions.{expression_at}
 use Rattle.expr_text.proofs.Printables.{expression_fits}
-use Rattle.vertex_lang.specs.Keywords.{order}
 use Rattle.vertex_lang.specs.Entries.{least_i64, greatest_i64, range_at, combine_at, combine_of}
 use Rattle.vertex_lang.specs.Entries.{index_of, below_lanes}
 use Rattle.vertex_lang.specs.Entries.{place_at, tree_at}

@@ -1,5 +1,5 @@
 -- The entries of printed lines that stand once are read again.
-use Rattle.std.proofs.Common.{◌≡◌, w64, ℕ, ℤ, pos, negsuc, ◌+◌, ◌≤◌, ◌≤ℤ◌, Bool, true}
+use Rattle.std.proofs.Common.{◌≡◌, w64, ℕ, ℤ, pos, negsuc, ◌+◌, ◌≤ℤ◌, Bool, true}
 use Rattle.std.proofs.Common.{false, cond, List, [], ◌∷◌, ◌++◌, length, drop, Some}
 use Rattle.std.proofs.Common.{Result, Ok, refl, sym, ◌∙◌, ap, arith, length-append}
 use Rattle.std.specs.Prelude.{codes, decimal, int_lt, FitsSigned}

@@ -145,7 +145,7 @@ module _ (p : ProgramEntries) (accepted : IsAccepted p) where
         (tail_pull_visits p h i) (let out = active_few in omega arith) tail_pull_few
 
 pub batch_visits_fit : BatchVisitsFit
-batch_visits_fit p g h cut accepted _ good_g good_h before =
+batch_visits_fit p g h cut accepted good_g good_h before =
     let refine : refine_visits p g h cut ≤ cut * most_visits =
     iterations_few (λ k. step_visits p (step p g h k))
     (λ k. step_few p accepted (step p g h k) good_g good_h) 1 cut in

@@ -1,15 +1,15 @@
 -- No count of visits overflows.
 use Rattle.std.specs.Prelude.{ℕ, ◌^◌, ◌<◌, ◌≤◌}
-use Rattle.bolt_base.specs.Graph.{Graph, IsGood, vertices}
+use Rattle.bolt_base.specs.Graph.{Graph, IsGood}
 use Rattle.vertex_expr.specs.declared.program.ProgramEntries.{ProgramEntries}
 use Rattle.range_check.specs.Breaks.{IsAccepted}
 use Rattle.run_model.specs.Visits.{visits, opening_visits}
 
--- the visits of a batch, from a good graph to one that has its vertices, wherever it is cut
+-- the visits of a batch, from a good graph to another, wherever it is cut
 abbrev pub BatchVisitsFit : Type 0
 BatchVisitsFit = (p : ProgramEntries) (g h : Graph) (cut : ℕ)
-    → IsAccepted p → vertices g ≤ vertices h → IsGood p.limits g → IsGood p.limits h
-    → cut ≤ p.rounds → visits p g h cut < 2 ^ 64
+    → IsAccepted p → IsGood p.limits g → IsGood p.limits h → cut ≤ p.rounds
+    → visits p g h cut < 2 ^ 64
 
 -- and those of an opening on a good graph
 abbrev pub OpeningVisitsFit : Type 0

@@ -1,6 +1,5 @@
-use Rattle.board.proofs.Keeping.{start_fits}
+use Rattle.board.proofs.Keeping.{knows_none}
 use Rattle.board.proofs.publisher.open.Goals as goal
 
-pub new-requires : goal.new-requires
-new-requires g c =
-    record { fits = start_fits c.args.accepted.now _ _ _ c.requires.start c.requires.room }
+pub new-requires-clause-rule : goal.new-requires-clause-rule
+new-requires-clause-rule g c = (c.in_ok-first.ensures.right, knows_none _)

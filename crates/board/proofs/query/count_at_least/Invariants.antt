@@ -2,8 +2,8 @@ use Rattle.std.proofs.Common.{◌≡◌, ◌≤◌, take}
 use Rattle.board.specs.Queries.{at_least}
 use Rattle.board.proofs.query.count_at_least.Given as goal
 
-abbrev pub invariant-loop-value : goal.invariant-loop-value
-invariant-loop-value l = record {
-  count : l.count ≡ at_least l.lane l.least (take l.value-index l.values);
-  few : l.count ≤ l.value-index;
+abbrev pub invariant-loop-vertex : goal.invariant-loop-vertex
+invariant-loop-vertex l = record {
+  count : l.count ≡ at_least l.lane l.least (take l.vertex l.places.values);
+  few : l.count ≤ l.vertex;
 }

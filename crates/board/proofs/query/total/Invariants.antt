@@ -3,8 +3,8 @@ use Rattle.board.specs.Queries.{lane_total}
 use Rattle.board.proofs.Sums.{IsSumOf}
 use Rattle.board.proofs.query.total.Given as goal
 
-abbrev pub invariant-loop-value : goal.invariant-loop-value
-invariant-loop-value l = record {
-  sum : l.total ≡ lane_total l.lane (take l.value-index l.values);
-  bound : IsSumOf l.value-index l.total;
+abbrev pub invariant-loop-vertex : goal.invariant-loop-vertex
+invariant-loop-vertex l = record {
+  sum : l.total ≡ lane_total l.lane (take l.vertex l.places.values);
+  bound : IsSumOf l.vertex l.total;
 }

@@ -16,13 +16,13 @@ returns-in-Refused-clause-conducts g c =
     rw c.in-Refused.is
     (Conducts-refused (λ (d : Content). Err refusal) (λ (d : Content). []) 1 stream_slots told
     (g.S.Shelf.opened c.args.shelf.now) (g.S.Shelf.faults c.args.shelf.now)
-    (g.K.Sink.written c.args.out.now) (g.K.Sink.written c.refuse.new.out)
-    (g.K.Sink.faults c.args.out.now) (g.K.Sink.faults c.refuse.new.out)
+    (g.K.Sink.written c.args.out.now) (g.K.Sink.written c.put_reply.new.out)
+    (g.K.Sink.faults c.args.out.now) (g.K.Sink.faults c.put_reply.new.out)
     refusal _ (told_all (λ t. let x : Result Opening Reply = Err refusal in x ≡ Err refusal) told
     (λ t. refl)) (told_all _ told (λ t. refl))
-    c.refuse.ensures.gives c.refuse.ensures.status own
-    (λ s same. no_stream s refusal.status same own) c.refuse.ensures.writing
-    c.refuse.ensures.cause)
+    c.put_reply.ensures.gives c.put_reply.ensures.status own
+    (λ s same. no_stream s refusal.status same own) c.put_reply.ensures.writing
+    c.put_reply.ensures.cause)
 
 pub returns-in-Runs-clause-conducts : goal.returns-in-Runs-clause-conducts
 returns-in-Runs-clause-conducts g c =

@@ -14,6 +14,6 @@ finish-answer-requires-clause-visits g c κs within =
     let low = c.requires.low in
     let none : c.new-meter.result.0 ≡ 0 = ap (λ (m : ℕ × ℕ). m.0) c.new-meter.ensures in
     let fits : refine_visits p h h cut + tail_visits p h cut < 2 ^ 64 =
-    batch_visits_fit p h h cut c.program-program.ensures.accepted (omega arith) c.requires.good
-    c.requires.good (omega arith) in
+    batch_visits_fit p h h cut c.program-program.ensures.accepted c.requires.good c.requires.good
+    (omega arith) in
     omega arith

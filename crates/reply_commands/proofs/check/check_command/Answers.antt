@@ -37,13 +37,13 @@ returns-clause-conducts g c =
     (g.S.Shelf.told c.read_reply.new.shelf) (g.S.Shelf.opened c.args.shelf.now)
     (g.S.Shelf.opened c.read_reply.new.shelf) (g.S.Shelf.faults c.args.shelf.now)
     (g.S.Shelf.faults c.read_reply.new.shelf) (g.K.Sink.written c.args.out.now)
-    (g.K.Sink.written c.refuse.new.out) (g.K.Sink.faults c.args.out.now)
-    (g.K.Sink.faults c.refuse.new.out) c.in_ok-reply.reply c.refuse.result
+    (g.K.Sink.written c.put_reply.new.out) (g.K.Sink.faults c.args.out.now)
+    (g.K.Sink.faults c.put_reply.new.out) c.in_ok-reply.reply c.put_reply.result
     c.in_ok-reply.ensures.reads c.in_ok-reply.ensures.course refl (λ made. made)
-    c.refuse.ensures.gives c.refuse.ensures.status c.refuse.ensures.writing
-    c.in_ok-reply.ensures.cause c.refuse.ensures.cause)
+    c.put_reply.ensures.gives c.put_reply.ensures.status c.put_reply.ensures.writing
+    c.in_ok-reply.ensures.cause c.put_reply.ensures.cause)
 
 pub returns-clause-decided : goal.returns-clause-decided
 returns-clause-decided g c =
-    decided-check (texts c.args.words.now) c.args.program c.requires.command c.refuse.result
-    c.in_ok-reply.reply.status c.refuse.ensures.status c.in_ok-reply.ensures.status
+    decided-check (texts c.args.words.now) c.args.program c.requires.command c.put_reply.result
+    c.in_ok-reply.reply.status c.put_reply.ensures.status c.in_ok-reply.ensures.status

@@ -18,13 +18,13 @@ returns-clause-conducts g c =
     made-replied (texts c.args.words.now) c.args.seed c.args.vertices c.args.pairs c.args.batches
     c.args.edits c.args.form c.requires.command (g.S.Shelf.told c.args._shelf.now)
     (g.S.Shelf.opened c.args._shelf.now) (g.S.Shelf.faults c.args._shelf.now)
-    (g.K.Sink.written c.args.out.now) (g.K.Sink.written c.refuse.new.out)
-    (g.K.Sink.faults c.args.out.now) (g.K.Sink.faults c.refuse.new.out) c.in_ok-reply.reply
-    c.refuse.result c.in_ok-reply.ensures.course c.refuse.ensures.gives c.refuse.ensures.writing
-    c.refuse.ensures.cause
+    (g.K.Sink.written c.args.out.now) (g.K.Sink.written c.put_reply.new.out)
+    (g.K.Sink.faults c.args.out.now) (g.K.Sink.faults c.put_reply.new.out) c.in_ok-reply.reply
+    c.put_reply.result c.in_ok-reply.ensures.course c.put_reply.ensures.gives c.put_reply.ensures.writing
+    c.put_reply.ensures.cause
 
 pub returns-clause-decided : goal.returns-clause-decided
 returns-clause-decided g c =
     decided-make (texts c.args.words.now) c.args.seed c.args.vertices c.args.pairs c.args.batches
-    c.args.edits c.args.form c.requires.command c.refuse.result c.in_ok-reply.reply.status
-    c.refuse.ensures.status c.in_ok-reply.ensures.status
+    c.args.edits c.args.form c.requires.command c.put_reply.result c.in_ok-reply.reply.status
+    c.put_reply.ensures.status c.in_ok-reply.ensures.status
