@@ -157,9 +157,9 @@ impl AggWords {
         sum.cast_signed()
     }
 
-    /// Marks a bit: loads its word, and steps by `fetch_or` where it isn't set there. True where the
-    /// bit was clear at this step, and stands in the seat's marks now; false where it was set, and
-    /// the seat has met it.
+    /// Marks a bit: loads its word, and steps by `fetch_or` where it isn't set there. True where
+    /// the bit was clear at this step, and stands in the seat's marks now; false where it was set,
+    /// and the seat has met it.
     pub fn mark(&self, seat: &mut AggSeat, bit: u32) -> bool
         requires table { seat.old.table ≡ self.now.table }
         requires bit { bit < self.now.layout.bits }

@@ -1,20 +1,20 @@
 -- How the reply to a stream is written, batch after batch.
 use Rattle.bolt_io.specs.declared.whole.TheConstants.{MOST_BYTES}
-use Rattle.std.specs.Prelude.{◌≡◌, ◌⊎◌, ℕ, ◌+◌, ◌-◌, ◌^◌, ◌≤◌, List, [], ◌∷◌, ◌++◌, length, take}
+use Rattle.std.specs.Prelude.{◌≡◌, ◌⊎◌, ℕ, ◌-◌, ◌≤◌, List, [], ◌∷◌, ◌++◌, length, take}
 use Rattle.std.specs.Prelude.{Option, Some, None, Result, Ok, Err, IfSome, IfErr}
 use Rattle.std.specs.Option.{option_map}
 use Rattle.std.proofs.Common.{refl, sym, ◌∙◌, ap, subst, arith, inl, inr, append_assoc}
 use Rattle.std.proofs.lemmas.List.{append-nil, take-take, length-take}
-use Rattle.bolt_io.specs.Told.{Told, left, opened_at, taken_from, TellsSlots}
+use Rattle.bolt_io.specs.Told.{Told, left, taken_from}
 use Rattle.bolt_io.specs.Written.{Wrote, WrotePart}
 use Rattle.bolt_io.proofs.WrittenLemmas.{Wrote-then, Wrote-none, WrotePart-then, WrotePart-more}
-use Rattle.bolt_io.proofs.WrittenLemmas.{WrotePart-none, WrotePart-all}
+use Rattle.bolt_io.proofs.WrittenLemmas.{WrotePart-none}
 use Rattle.text_lines.specs.declared.feed.FeedError.{FeedError}
 use Rattle.text_lines.specs.declared.feed.FeedError.TheVariants.{Shelf as FeedShelf}
 use Rattle.text_lines.specs.declared.feed.FeedError.TheVariants.{Turns as FeedTurns}
 use Rattle.text_lines.specs.declared.feed.FeedError.TheVariants.{Memory as FeedMemory}
 use Rattle.text_lines.specs.Feed.{Feed, Advances, readable}
-use Rattle.text_lines.specs.Reading.{Blames, IfTurns, IfMoreWanted}
+use Rattle.text_lines.specs.Reading.{Blames, IfTurns, IfMoreWanted, StopsAt}
 use Rattle.graph_text.specs.declared.batch_text.BatchText.{BatchText}
 use Rattle.graph_text.specs.BatchCode.{batches_ahead, batches_within, NoBatchEnds, IsFirstEnded}
 use Rattle.graph_text.specs.StreamText.{batches}
@@ -26,7 +26,7 @@ use Rattle.command_files.specs.declared.stop.Stop.TheVariants.{ShelfFailed, TooL
 use Rattle.command_files.specs.Replied.{Gives, Leads}
 use Rattle.command_files.specs.Stops.{IsOfWriting, ShelfCause, feed_stop}
 use Rattle.batch_run.specs.Ahead.{reply_ahead, WroteUpTo, texts_within, KeptUp, IsReadStop}
-use Rattle.batch_run.specs.Ahead.{Streamed}
+use Rattle.batch_run.specs.Ahead.{Streamed, StandsAt}
 
 module _ {S : Type 0} (steps : Steps S) where
   -- a batch, and then the others
@@ -355,6 +355,12 @@ feed_wanted (FeedShelf fault) P h is = h
 feed_wanted (FeedTurns taken) P h is = h
 feed_wanted FeedMemory P h (inl is) = cc
 feed_wanted FeedMemory P h (inr is) = cc
+
+-- a stop stands where the error of its feed does
+pub feed_stands : (feed : Feed) (e : FeedError) → StopsAt feed e → StandsAt feed (feed_stop e)
+feed_stands feed (FeedShelf fault) h = h
+feed_stands feed (FeedTurns taken) h = h.1
+feed_stands feed FeedMemory h = h
 
 pub read_stop-ok : {A : Type 0} (x : A) → IsReadStop (let r : Result A Stop = Ok x in r) → ⊥
 read_stop-ok x (inl is) = cc

@@ -1,13 +1,12 @@
 -- The parts of a command, one after another.
-use Rattle.std.specs.Prelude.{◌≡◌, ◌≢◌, ◌⊎◌, ℕ, zero, suc, ◌+◌, ◌≤◌, List, [], ◌∷◌, ◌++◌, length}
+use Rattle.std.specs.Prelude.{◌≡◌, ◌≢◌, ℕ, zero, suc, ◌+◌, ◌≤◌, List, [], ◌∷◌, ◌++◌, length}
 use Rattle.std.specs.Prelude.{drop, Option, Some, None, Result, Ok, Err, IfSome, IfOk, IfErr}
 use Rattle.std.specs.Option.{option_map}
-use Rattle.std.proofs.Common.{refl, sym, ◌∙◌, ap, subst, arith, inl, inr, append_assoc}
+use Rattle.std.proofs.Common.{refl, sym, ◌∙◌, ap, subst, arith, inl, inr}
 use Rattle.std.proofs.lemmas.List.{drop_all, drop_at}
 use Rattle.bolt_io.specs.Told.{Told}
 use Rattle.bolt_io.specs.declared.files.Slot.{Slot}
 use Rattle.bolt_io.specs.Written.{Wrote}
-use Rattle.bolt_io.proofs.WrittenLemmas.{Wrote-then}
 use Rattle.graph_text.specs.StreamText.{batches}
 use Rattle.batch_steps.specs.declared.reply.Reply.{Reply}
 use Rattle.batch_steps.specs.Steps.{Steps, rest_reply, IsMade, stream_slots}
@@ -18,8 +17,8 @@ use Rattle.command_files.specs.declared.stop.Stop.TheVariants.{ShelfFailed, Sink
 use Rattle.command_files.specs.declared.stop.Stop.TheVariants.{TooLong}
 use Rattle.command_files.specs.Files.{content, AreFirst}
 use Rattle.command_files.specs.Reads.{with_slots, Follows, Reads}
-use Rattle.command_files.specs.Replied.{Gives, Replied, Leads}
-use Rattle.command_files.specs.Stops.{BlamesShelf, BlamesSink, ShelfCause, SinkCause, IsOfWriting}
+use Rattle.command_files.specs.Replied.{Gives, Replied}
+use Rattle.command_files.specs.Stops.{BlamesSink, ShelfCause, SinkCause, IsOfWriting}
 use Rattle.command_files.proofs.FileSteps.{Reads-none, Reads-nothing}
 use Rattle.command_files.proofs.ReadSteps.{Reads-then, Reads-err, told_all, told_map}
 use Rattle.command_files.proofs.WriteSteps.{Leads-then, Leads-behind, Replied-behind}

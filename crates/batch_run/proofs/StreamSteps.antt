@@ -1,7 +1,7 @@
 -- A stream that is opened and then read.
 use Rattle.bolt_io.specs.declared.whole.TheConstants.{MOST_BYTES}
-use Rattle.std.specs.Prelude.{◌≡◌, ◌⊎◌, ℕ, ◌+◌, ◌^◌, ◌<◌, ◌≤◌, true, List, [], ◌∷◌, ◌++◌, length}
-use Rattle.std.specs.Prelude.{take, drop, Option, Some, None, Result, Ok, Err, IfSome, IfOk, OnOk}
+use Rattle.std.specs.Prelude.{◌≡◌, ℕ, ◌+◌, ◌<◌, ◌≤◌, true, List, [], ◌∷◌, length}
+use Rattle.std.specs.Prelude.{take, Option, Some, None, Result, Ok, Err, IfSome, IfOk, OnOk}
 use Rattle.std.specs.Prelude.{IsErrOf}
 use Rattle.std.specs.Option.{option_map}
 use Rattle.std.proofs.Common.{refl, sym, ◌∙◌, ap, subst, arith, inl, inr}
@@ -15,7 +15,7 @@ use Rattle.batch_steps.specs.Course.{Opening, opening_of}
 use Rattle.batch_steps.specs.Ended.{ended_batches}
 use Rattle.batch_steps.specs.declared.reply.Reply.{Reply}
 use Rattle.command_files.specs.declared.stop.Stop.{Stop}
-use Rattle.command_files.specs.declared.stop.Stop.TheVariants.{ShelfFailed, SinkFailed, TooLong}
+use Rattle.command_files.specs.declared.stop.Stop.TheVariants.{TooLong}
 use Rattle.command_files.specs.Files.{content, whole_file, IsNear, IsLong}
 use Rattle.command_files.specs.Reads.{TookTo, Reads}
 use Rattle.command_files.specs.Replied.{Gives, Replied, Leads, Appended}

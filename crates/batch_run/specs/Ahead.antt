@@ -1,17 +1,20 @@
 -- How far a run has come in writing its reply.
-use Rattle.std.specs.Prelude.{◌≡◌, ◌⊎◌, ℕ, ◌+◌, ◌-◌, ◌≤◌, List, ◌++◌, length, take, Option}
+use Rattle.std.specs.Prelude.{◌≡◌, ◌⊎◌, ℕ, ◌<◌, ◌≤◌, List, ◌++◌, length, take, Option}
 use Rattle.std.specs.Prelude.{Result, IfSome, IsErrOf}
 use Rattle.std.specs.Option.{option_map}
 use Rattle.bolt_io.specs.Told.{Told}
 use Rattle.bolt_io.specs.Written.{Wrote}
-use Rattle.text_lines.specs.Feed.{Feed, Advances, readable}
+use Rattle.bolt_io.specs.declared.whole.TheConstants.{MOST_BYTES}
+use Rattle.text_lines.specs.Feed.{Feed, NeedsMore, Advances, readable}
+use Rattle.text_lines.specs.Reading.{IsSpent}
 use Rattle.graph_text.specs.StreamText.{batches}
 use Rattle.graph_text.specs.BatchCode.{batches_ahead, batches_within}
 use Rattle.batch_steps.specs.declared.reply.Reply.{Reply}
 use Rattle.batch_steps.specs.Steps.{Steps, prepend, rest_reply, batch_texts}
 use Rattle.batch_steps.specs.Ended.{ended_batches}
 use Rattle.command_files.specs.declared.stop.Stop.{Stop}
-use Rattle.command_files.specs.declared.stop.Stop.TheVariants.{ShelfFailed, TooLong}
+use Rattle.command_files.specs.declared.stop.Stop.TheVariants.{ShelfFailed, SinkFailed, Memory}
+use Rattle.command_files.specs.declared.stop.Stop.TheVariants.{TooLong}
 use Rattle.command_files.specs.Replied.{Gives, Leads}
 
 -- what is still to be written of the batches that a feed has ahead
@@ -43,6 +46,15 @@ pub record KeptUp (before rest : ℕ → Option (List ℕ)) (taken : ℕ) (old n
 -- the reading stopped: the shelf failed, or a file is too long
 abbrev pub IsReadStop : {T : Type 0} → Result T Stop → Type 0
 IsReadStop r = IsErrOf r ShelfFailed ⊎ IsErrOf r TooLong
+
+-- where a feed stands when the reading of its stream stops: as many bytes were taken as are at most
+-- and another read is needed, exactly where a file is too long; where the shelf failed it may and has
+-- to take more
+abbrev pub StandsAt : Feed → Stop → Type 0
+StandsAt feed ShelfFailed = (feed.taken < MOST_BYTES) × NeedsMore feed
+StandsAt feed SinkFailed = ⊥
+StandsAt feed Memory = ¬ IsSpent feed
+StandsAt feed TooLong = IsSpent feed
 
 -- a run went over the stream of a slot
 pub record Streamed {S : Type 0} (steps : Steps S) (s : S) (told later : Option Told) (slot : ℕ)

@@ -1,13 +1,14 @@
 // The next batch of a stream.
 ghost use Rattle.bolt_io.specs.declared.whole.TheConstants.{MOST_BYTES};
 ghost use Rattle.std.specs.Prelude.{◌≡◌, ℕ, ◌+◌, ◌-◌, ◌<◌, ◌≤◌, ◌∷◌, [], length, IfOk};
-ghost use Rattle.std.specs.Prelude.{IfErr, IfSome, IfNone, IsErrOf};
+ghost use Rattle.std.specs.Prelude.{IfErr, OnOk, IfSome, IfNone, IsErrOf};
 ghost use Rattle.std.specs.Option.{option_map};
 ghost use Rattle.text_lines.specs.Feed.{Advances, IsAtEnd};
 ghost use Rattle.graph_text.specs.declared.batch_reader.TheConstants.{MOST_EDITS};
 ghost use Rattle.graph_text.specs.BatchCode.{batches_ahead, NoBatchEnds, IsFirstEnded};
+ghost use Rattle.graph_text.specs.BatchCode.{IsBatchStuck};
 ghost use Rattle.command_files.specs.Stops.{BlamesShelf, IsOfReading};
-ghost use Rattle.batch_run.specs.Ahead.{IsReadStop};
+ghost use Rattle.batch_run.specs.Ahead.{IsReadStop, StandsAt};
 
 use bolt_io::Shelf;
 use command_files::Stop;
@@ -42,6 +43,9 @@ pub fn next_batch<S: Shelf>(
     ensures most { reader.new.feed.taken ≤ MOST_BYTES }
     ensures fewer { IfOk result (λ r. IfNone r (reader.new.feed.taken < MOST_BYTES)) }
     ensures too_long { IsErrOf result Stop.TooLong → reader.new.feed.taken ≡ MOST_BYTES }
+    ensures stops { IfErr result (StandsAt reader.new.feed) }
+    ensures not_stuck { OnOk result (IfSome (S.told shelf.old)
+        (λ t. ¬ IsBatchStuck reader.old.feed t)) }
     ensures opened { S.opened shelf.new ≡ S.opened shelf.old }
     ensures cause { BlamesShelf result (S.faults shelf.old) (S.faults shelf.new) }
     ensures reading { IfErr result IsOfReading }

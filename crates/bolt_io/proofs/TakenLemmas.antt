@@ -6,8 +6,9 @@ use Rattle.std.proofs.Common.{refl, sym, ◌∙◌, ap, subst, arith, add-zero, 
 use Rattle.std.proofs.Common.{length-drop, take-add}
 use Rattle.std.proofs.lemmas.List.{append-nil, set-get_or, get_or-set_same, take-append-drop}
 use Rattle.std.proofs.lemmas.List.{length-take-le, length-take, get_or_push, get_or_append_left}
-use Rattle.std.proofs.lemmas.List.{get_or-set_other}
-use Rattle.std.proofs.Math.Seq.{set-set, drop-drop}
+use Rattle.std.proofs.lemmas.List.{get_or-set_other, take-take, take-append-le, take_all}
+use Rattle.std.proofs.Math.Seq.{set-set, drop-drop, take-append-add}
+use borrow.Rule.Slice.PartMut.{put_mid, post_of}
 use Rattle.bolt_io.specs.Told.{Told, bytes_of, no_slot, slot_at, taken_of, file_of, left, opened_at}
 use Rattle.bolt_io.specs.Told.{taken_from, GivesNext, TellsSlots, Took, IsWithinFile, IsTakenWhole}
 use Rattle.bolt_io.specs.declared.files.Slot.{Slot}
@@ -92,6 +93,48 @@ Took-then (Some t) b c k n s buf below so_far told gives within =
           ∙ ap (λ (l : List ℕ). take m (left t k) ++ l) piece ∙ sym (take-add m n (left t k))
           ∙ ap (λ (j : ℕ). take j (left t k)) (sym size);
     }
+
+-- what stands in front of a list after a read into its places from one on
+pub filled_front : (view buf : List ℕ) (at k n : ℕ) → at ≤ length view → n ≤ length buf
+    → take (at + n) (put_mid at k view buf) ≡ take at view ++ take n buf
+filled_front view buf at k n inside within =
+    let size : length (take at view) ≡ at = length-take-le at view inside in
+    let rest = post_of at k view in
+    let front : take (length (take at view) + n) (take at view ++ (buf ++ rest))
+    ≡ take at view ++ take n (buf ++ rest) = take-append-add (take at view) (buf ++ rest) n in
+    ap (λ (j : ℕ). take (j + n) (take at view ++ (buf ++ rest))) (sym size) ∙ front
+    ∙ ap (λ (l : List ℕ). take at view ++ l) (take-append-le n buf rest within)
+
+-- what a vector has after places were made ready behind its items, a read has filled the first n of
+-- them, and the others were dropped
+pub read_behind : (old ready view items buf rest : List ℕ) (at k n len most : ℕ)
+    → at ≡ length old → at ≤ most → ready ≡ take most old ++ rest → view ≡ ready
+    → n ≤ length buf → at + n ≤ len
+    → items ≡ take (at + n)
+    (take len (put_mid at k view buf ++ drop (length (put_mid at k view buf)) ready))
+    → items ≡ old ++ take n buf
+read_behind old ready view items buf rest at k n len most begins few grown seen within room is =
+    let filled = put_mid at k view buf in
+    let size : length view ≡ length (take most old) + length rest =
+    ap length (seen ∙ grown) ∙ length-append (take most old) rest in
+    let inside : at ≤ length view = omega (arith, size, length-take most old, begins, few) in
+    let long : at + n ≤ length filled =
+    omega (
+      arith,
+      length-append (take at view) (buf ++ post_of at k view),
+      length-append buf (post_of at k view),
+      length-take-le at view inside,
+      within,
+    ) in
+    let front : take at view ≡ old =
+    ap (take at) (seen ∙ grown)
+    ∙ ap (λ (l : List ℕ). take at (l ++ rest)) (take_all most old (omega (arith, begins, few)))
+    ∙ take-append-le at old rest (omega (arith, begins))
+    ∙ take_all at old (omega (arith, begins)) in
+    is ∙ take-take (at + n) len (filled ++ drop (length filled) ready) room
+    ∙ take-append-le (at + n) filled (drop (length filled) ready) long
+    ∙ filled_front view buf at k n inside within
+    ∙ ap (λ (l : List ℕ). l ++ take n buf) front
 
 -- a read of nothing, which is the end
 pub Took-end : (a b c : Option Told) (k : ℕ) (s buf : List ℕ) → IfSome a (λ t. k < length t.slots)

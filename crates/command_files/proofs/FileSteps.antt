@@ -1,6 +1,6 @@
 -- A file that is opened and then read.
 use Rattle.bolt_io.specs.declared.whole.TheConstants.{MOST_BYTES}
-use Rattle.std.specs.Prelude.{◌≡◌, ℕ, ◌+◌, ◌-◌, ◌^◌, ◌<◌, ◌≤◌, Bool, true, List, [], ◌∷◌, ◌++◌}
+use Rattle.std.specs.Prelude.{◌≡◌, ℕ, ◌+◌, ◌-◌, ◌<◌, ◌≤◌, Bool, List, [], ◌∷◌, ◌++◌}
 use Rattle.std.specs.Prelude.{length, take, Option, Some, None, Result, Ok, Err, IfSome, IfOk, OnOk}
 use Rattle.std.specs.Prelude.{IsErrOf, slice_set}
 use Rattle.std.specs.Option.{option_map}

@@ -1,10 +1,10 @@
 -- The file of a graph that is opened and then read.
 use Rattle.bolt_io.specs.declared.whole.TheConstants.{MOST_BYTES}
-use Rattle.std.specs.Prelude.{◌≡◌, ℕ, ◌+◌, ◌^◌, ◌<◌, ◌≤◌, List, [], ◌∷◌, length, take, Option, Some}
-use Rattle.std.specs.Prelude.{None, Result, Ok, Err, IfSome, IfOk, OnOk, OnErr, IsOk, IsErrOf}
+use Rattle.std.specs.Prelude.{◌≡◌, ℕ, ◌+◌, ◌<◌, ◌≤◌, List, [], ◌∷◌, length, take, Option}
+use Rattle.std.specs.Prelude.{Result, Ok, Err, IfSome, IfOk, OnOk, OnErr, IsOk, IsErrOf}
 use Rattle.std.specs.Option.{option_map}
 use Rattle.std.proofs.Common.{sym, ap, subst, arith}
-use Rattle.std.proofs.lemmas.List.{length-take, take_all}
+use Rattle.std.proofs.lemmas.List.{length-take}
 use Rattle.bolt_base.specs.declared.limits.Limits.{Limits}
 use Rattle.bolt_base.specs.Graph.{Graph}
 use Rattle.bolt_io.specs.Told.{Told, left, opened_at, TellsSlots}

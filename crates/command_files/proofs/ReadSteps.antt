@@ -1,16 +1,15 @@
 -- Calls that read one after another.
 use Rattle.std.specs.Prelude.{◌≡◌, ℕ, ◌+◌, List, [], ◌∷◌, ◌++◌, length, Option, Some, None, Result}
-use Rattle.std.specs.Prelude.{Ok, Err, IfSome, IfOk, OnOk, IsErrOf}
+use Rattle.std.specs.Prelude.{Ok, Err, IfSome, IfOk, IsErrOf}
 use Rattle.std.specs.Option.{option_map}
-use Rattle.std.proofs.Common.{refl, sym, ◌∙◌, ap, subst, arith, inl, inr, append_assoc}
-use Rattle.std.proofs.Common.{length-append, suc}
-use Rattle.std.proofs.lemmas.List.{append-nil}
+use Rattle.std.proofs.Common.{sym, ◌∙◌, ap, subst, arith, inl, inr, append_assoc}
+use Rattle.std.proofs.Common.{length-append}
 use Rattle.bolt_io.specs.Told.{Told}
 use Rattle.bolt_io.specs.declared.files.Slot.{Slot}
 use Rattle.command_files.specs.declared.stop.Stop.{Stop}
 use Rattle.command_files.specs.declared.stop.Stop.TheVariants.{TooLong}
 use Rattle.batch_steps.specs.Files.{Content, Named}
-use Rattle.command_files.specs.Files.{content, IsLong, MeetsLong, IsRead, AreFirst, AreRead}
+use Rattle.command_files.specs.Files.{content, MeetsLong, AreFirst, AreRead}
 use Rattle.command_files.specs.Reads.{with_slots, Follows, Reads}
 
 AreFirst-more : (ss : List Slot) (fs gs : List Named) → AreFirst ss fs → AreFirst ss (fs ++ gs)

@@ -1,8 +1,8 @@
 -- Why a graph's reading stopped, and how far it went.
 use Rattle.bolt_io.specs.declared.whole.TheConstants.{MOST_BYTES}
-use Rattle.std.specs.Prelude.{◌≡◌, ◌≢◌, ℕ, ◌-◌, ◌<◌, ◌≤◌, List, length, Option, Some, None, Result}
+use Rattle.std.specs.Prelude.{◌≡◌, ℕ, ◌-◌, ◌<◌, length, Option, Result}
 use Rattle.std.specs.Prelude.{Ok, Err, IfSome}
-use Rattle.std.proofs.Common.{refl, sym, ap, subst, arith}
+use Rattle.std.proofs.Common.{ap, subst, arith}
 use Rattle.bolt_base.specs.declared.limits.Limits.{Limits}
 use Rattle.bolt_base.specs.Graph.{Graph}
 use Rattle.bolt_io.specs.Told.{Told, left}
@@ -16,7 +16,7 @@ use Rattle.graph_text.specs.GraphText.{graph_of}
 use Rattle.graph_text.specs.Refusals.{IfLine, IsTooLong, ReadsAsFar, ReadsGraph, reading_error}
 use Rattle.graph_text.specs.Refusals.{graph_far}
 use Rattle.command_files.specs.declared.stop.Stop.{Stop}
-use Rattle.command_files.specs.declared.stop.Stop.TheVariants.{ShelfFailed, SinkFailed, Memory}
+use Rattle.command_files.specs.declared.stop.Stop.TheVariants.{ShelfFailed, Memory}
 use Rattle.command_files.specs.declared.stop.Stop.TheVariants.{TooLong}
 use Rattle.command_files.specs.Reads.{TookTo}
 use Rattle.command_files.specs.Stops.{bad_or_stop, ShelfCause}

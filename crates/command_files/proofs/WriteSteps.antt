@@ -1,6 +1,6 @@
 -- Texts that are written one after another.
 use Rattle.std.specs.Prelude.{◌≡◌, ℕ, List, [], ◌++◌, take, Option, Some, None, Result, Ok, Err}
-use Rattle.std.specs.Prelude.{IfSome, IfOk, OnOk}
+use Rattle.std.specs.Prelude.{IfSome}
 use Rattle.std.specs.Option.{option_map}
 use Rattle.std.proofs.Common.{subst, sym, append_assoc}
 use Rattle.bolt_io.specs.Told.{Told}

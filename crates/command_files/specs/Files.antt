@@ -1,6 +1,6 @@
 -- The files that a command reads, as far as a shelf tells them.
 use Rattle.bolt_io.specs.declared.whole.TheConstants.{MOST_BYTES}
-use Rattle.std.specs.Prelude.{◌≡◌, ◌⊎◌, ℕ, ◌+◌, ◌^◌, ◌≤◌, true, List, [], ◌∷◌, length, take}
+use Rattle.std.specs.Prelude.{◌≡◌, ◌⊎◌, ℕ, ◌+◌, ◌≤◌, true, List, [], ◌∷◌, length, take}
 use Rattle.bolt_io.specs.Told.{Told, bytes_of}
 use Rattle.bolt_io.specs.declared.files.Slot.{Slot}
 use Rattle.text_lines.specs.declared.line_feed.TheConstants.{BLOCK_BYTES}

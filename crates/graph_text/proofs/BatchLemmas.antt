@@ -22,7 +22,8 @@ use Rattle.graph_text.specs.StreamText.{no_batch}
 use Rattle.graph_text.specs.OpenCode.{IsPaired, unopened, with_line, committed}
 use Rattle.graph_text.specs.BatchCode.{batches_ahead, batches_within, NoBatchEnds, IsBatchStuck}
 use Rattle.graph_text.specs.BatchCode.{IsFirstEnded}
-use Rattle.graph_text.proofs.OpenLemmas.{some_parts, batches_on, batches_on_none, batches_on_end}
+use Rattle.lexical.proofs.Splitting.{first_of_split}
+use Rattle.graph_text.proofs.OpenLemmas.{batches_on, batches_on_none, batches_on_end}
 use Rattle.graph_text.proofs.OpenLemmas.{batches_on_commit, batches_on_more}
 
 abbrev pub Lines : Type 0
@@ -69,7 +70,7 @@ module _ (last : Option ℕ → List BatchText) where
             ap (λ (t : Bool). Some (batches_on last b n
             (cond t ([] ∷ parts) (onto_first (stream_line line) parts)))) (ap is_commit commit)
             ∙ ap (λ (x : List BatchText). Some x)
-            (batches_on_commit last b n parts paired (some_parts (map stream_line l)))
+            (batches_on_commit last b n parts paired (first_of_split is_commit (map stream_line l)))
 
     -- at another line
     pub open_line : (c : OpenBatch) → (stream_line line ≡ Commit → ⊥)
@@ -88,7 +89,7 @@ module _ (last : Option ℕ → List BatchText) where
             (is_no_commit (stream_line line) other)
             ∙ ap (λ (x : List BatchText). Some x)
             (sym (batches_on_more last b n (stream_line line) parts paired other
-            (some_parts (map stream_line l))))
+            (first_of_split is_commit (map stream_line l))))
 
 -- a reader began at one feed and has come to another, with an open batch: the batches that end in
 -- the first bytes are those that

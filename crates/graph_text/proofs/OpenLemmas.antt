@@ -3,13 +3,14 @@ use Rattle.std.proofs.Common.{◌≡◌, ℕ, zero, suc, ◌+◌, ◌≤◌, Boo
 use Rattle.std.proofs.Common.{◌∷◌, ◌++◌, length, take, refl, sym, ap, ◌∙◌, arith}
 use Rattle.std.proofs.Common.{append_assoc, Option, Some, None}
 use Rattle.std.specs.Prelude.{is_some, nat_lt, slice_get, unwrap_or}
-use Rattle.std.specs.List.{prefix_len, slice_split, onto_first}
+use Rattle.std.specs.List.{prefix_len, onto_first}
 use Rattle.std.proofs.lemmas.List.Sums.{take_while-cons}
 use Rattle.std.proofs.lemmas.Bool.Decides.{nat_tests}
 use Rattle.std.proofs.lemmas.List.{append-nil, take_all, take-append-le}
 use Rattle.std.proofs.lemmas.Option.{slice_get_past}
 use Rattle.bolt_base.specs.declared.edge.Edit.{Edit}
 use Rattle.bolt_base.specs.declared.limits.LineCause.TheVariants.{Syntax, Size}
+use Rattle.lexical.proofs.Splitting.{IsSomeParts}
 use Rattle.graph_text.specs.declared.bad_line.BadLine.{BadLine}
 use Rattle.graph_text.specs.declared.batch_reader.TheConstants.{MOST_EDITS}
 use Rattle.graph_text.specs.declared.batch_text.BatchText.{BatchText}
@@ -17,7 +18,7 @@ use Rattle.graph_text.specs.declared.batch_text.OpenBatch.{OpenBatch}
 use Rattle.graph_text.specs.declared.stream_lines.StreamLine.{StreamLine}
 use Rattle.graph_text.specs.declared.stream_lines.StreamLine.TheVariants.{Empty, Edit as EditLine}
 use Rattle.graph_text.specs.declared.stream_lines.StreamLine.TheVariants.{Commit, Unknown}
-use Rattle.graph_text.specs.StreamText.{is_empty, is_known, is_commit, edits_in, edit_numbers}
+use Rattle.graph_text.specs.StreamText.{is_empty, is_known, edits_in, edit_numbers}
 use Rattle.graph_text.specs.StreamText.{known_lines, bad_at, first_unknown, too_many_or, first_line}
 use Rattle.graph_text.specs.StreamText.{batches_by}
 use Rattle.graph_text.specs.OpenCode.{IsPaired, unopened, with_edit, with_unknown, with_line}
@@ -233,25 +234,6 @@ extended_more b n line more paired other =
             (same ∙ size))))
             ∙ known_first f es ls (EditLine e)
 
--- there is a first part
-pub record IsSomeParts_of (parts : List (List StreamLine)) : Type 0 where
-  pub first : List StreamLine
-  pub others : List (List StreamLine)
-  pub are : parts ≡ first ∷ others
-
-onto_some : (x : StreamLine) (parts : List (List StreamLine)) → IsSomeParts_of (onto_first x parts)
-onto_some x [] = record { first = x ∷ []; others = []; are = refl }
-onto_some x (p ∷ ps) = record { first = x ∷ p; others = ps; are = refl }
-
-cond_some : (b : Bool) (x : StreamLine) (parts : List (List StreamLine))
-    → IsSomeParts_of (cond b ([] ∷ parts) (onto_first x parts))
-cond_some true x parts = record { first = []; others = parts; are = refl }
-cond_some false x parts = onto_some x parts
-
-pub some_parts : (lines : List StreamLine) → IsSomeParts_of (slice_split is_commit lines)
-some_parts [] = record { first = []; others = []; are = refl }
-some_parts (x ∷ xs) = cond_some (is_commit x) x (slice_split is_commit xs)
-
 -- the batches of parts, of which an open batch has lines of the first already
 module _ (last : Option ℕ → List BatchText) where
   abbrev pub batches_on : OpenBatch → ℕ → List (List StreamLine) → List BatchText
@@ -273,7 +255,7 @@ module _ (last : Option ℕ → List BatchText) where
   batches_on_end b n paired = ap (λ (o : OpenBatch). last o.first_line) (extended_none b n paired)
 
   pub batches_on_commit : (b : OpenBatch) (n : ℕ) (parts : List (List StreamLine)) → IsPaired b
-      → IsSomeParts_of parts → batches_on b n ([] ∷ parts)
+      → IsSomeParts parts → batches_on b n ([] ∷ parts)
       ≡ committed b n ∷ batches_by last (n + 1) parts
   batches_on_commit b n parts paired some =
       ap (λ (l : List (List StreamLine)). batches_on b n ([] ∷ l)) some.are
@@ -285,7 +267,7 @@ module _ (last : Option ℕ → List BatchText) where
       (sym some.are)
 
   pub batches_on_more : (b : OpenBatch) (n : ℕ) (line : StreamLine) (parts : List (List StreamLine))
-      → IsPaired b → (line ≡ Commit → ⊥) → IsSomeParts_of parts
+      → IsPaired b → (line ≡ Commit → ⊥) → IsSomeParts parts
       → batches_on (with_line b n line) (n + 1) parts ≡ batches_on b n (onto_first line parts)
   batches_on_more b n line parts paired other some =
       ap (batches_on (with_line b n line) (n + 1)) some.are

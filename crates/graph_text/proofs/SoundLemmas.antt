@@ -2,7 +2,7 @@
 use Rattle.std.proofs.Common.{◌≡◌, ℕ, ℤ, pos, ◌+◌, ◌<◌, ◌≤◌, max, Bool, true, false, not, cond}
 use Rattle.std.proofs.Common.{List, [], length, map, refl, sym, ap, ◌∙◌, subst, arith, Option, Some}
 use Rattle.std.proofs.Common.{None}
-use Rattle.std.specs.Prelude.{nat_lt, nat_le, nat_eq, is_none, unwrap_or}
+use Rattle.std.specs.Prelude.{nat_lt, nat_le, nat_eq, unwrap_or}
 use Rattle.std.specs.List.{All, range_with_len}
 use Rattle.std.specs.FinMap as finite
 use Rattle.std.proofs.lemmas.Bool.Decides.{nat_tests}

@@ -2,7 +2,6 @@
 use Rattle.std.proofs.Common.{◌≡◌, ℕ, zero, suc, ◌+◌, ◌-◌, ◌<◌, ◌≤◌, Bool, true, false, cond, List}
 use Rattle.std.proofs.Common.{[], ◌∷◌, map, length, get_or, take, drop, refl, sym, ◌∙◌, ap, arith}
 use Rattle.std.proofs.Common.{length-drop}
-use Rattle.std.specs.Prelude.{◌==◌}
 use Rattle.std.specs.List.{take_while, prefix_len}
 use Rattle.std.proofs.lemmas.List.{drop_more, drop-drop, drop_all, length-take-le}
 use Rattle.std.proofs.lemmas.List.Sums.{prefix_len-le-length}

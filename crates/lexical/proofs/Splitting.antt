@@ -9,21 +9,21 @@ use Rattle.std.proofs.lemmas.List.Sums.{prefix_len_passes, prefix_len_stops}
 use Rattle.std.proofs.lemmas.List.Elements.{All-head, All-tail}
 
 -- there is a first part
-pub record IsSomeParts (parts : List (List ℕ)) : Type 0 where
-  pub first : List ℕ
-  pub others : List (List ℕ)
+pub record IsSomeParts {X : Type 0} (parts : List (List X)) : Type 0 where
+  pub first : List X
+  pub others : List (List X)
   pub are : parts ≡ first ∷ others
 
-first_onto : (x : ℕ) (parts : List (List ℕ)) → IsSomeParts (onto_first x parts)
+first_onto : {X : Type 0} (x : X) (parts : List (List X)) → IsSomeParts (onto_first x parts)
 first_onto x [] = record { first = x ∷ []; others = []; are = refl }
 first_onto x (p ∷ ps) = record { first = x ∷ p; others = ps; are = refl }
 
-first_of_either : (b : Bool) (x : ℕ) (parts : List (List ℕ))
+first_of_either : {X : Type 0} (b : Bool) (x : X) (parts : List (List X))
     → IsSomeParts (cond b ([] ∷ parts) (onto_first x parts))
 first_of_either true x parts = record { first = []; others = parts; are = refl }
 first_of_either false x parts = first_onto x parts
 
-pub first_of_split : (p : ℕ → Bool) (xs : List ℕ) → IsSomeParts (slice_split p xs)
+pub first_of_split : {X : Type 0} (p : X → Bool) (xs : List X) → IsSomeParts (slice_split p xs)
 first_of_split p [] = record { first = []; others = []; are = refl }
 first_of_split p (x ∷ xs) = first_of_either (p x) x (slice_split p xs)
 

@@ -1,17 +1,14 @@
 -- What was found, item by item.
-use Rattle.std.proofs.Common.{◌≡◌, ℕ, ◌+◌, ◌<◌, ◌≤◌, ◌++◌, Bool, true, false, ◌||◌, eqb, set}
-use Rattle.std.proofs.Common.{List, [], ◌∷◌, length, get_or, take, refl, sym, ap, ◌∙◌, subst, arith}
-use Rattle.std.proofs.Common.{inl, inr, length-set, replicate}
-use Rattle.std.specs.List.{All, IsDistinct, list_any}
-use Rattle.std.proofs.lemmas.Bool.{cases_eq, eq-eqb, ne_eqb}
-use Rattle.std.proofs.lemmas.List.{get_or-set_same, get_or-set_other}
+use Rattle.std.proofs.Common.{◌≡◌, ℕ, ◌+◌, ◌<◌, ◌++◌, Bool, true, false, ◌||◌, eqb, set}
+use Rattle.std.proofs.Common.{List, [], ◌∷◌, length, get_or, take, refl, sym, ap, ◌∙◌, arith}
+use Rattle.std.proofs.Common.{inl, inr, length-set, replicate, true≢false}
+use Rattle.std.proofs.Math.Bool.{or-true}
+use Rattle.std.proofs.lemmas.Bool.{cases_eq, cases_lt, eq-eqb, ne_eqb}
+use Rattle.std.proofs.lemmas.List.{get_or_past, get_or-set_same, get_or-set_other}
 use Rattle.std.proofs.lemmas.List.{length-replicate, get_or-replicate}
 use Rattle.std.proofs.lemmas.List.Elements.{All-nil, All-push}
-use Rattle.std.proofs.lemmas.Map.Keys.{IsDistinct-from_apart, IsDistinct-push}
-use Rattle.std.proofs.lemmas.Cmp.{nat_eq_equiv}
 use Rattle.std.proofs.lemmas.List.Folds.{list_any-append, list_any_more}
 use Rattle.bolt_base.specs.declared.edge.Edge.{Edge}
-use Rattle.pull_targets.proofs.RisingLists.{eqb_flips}
 use Rattle.pull_targets.specs.EndList.{AreFound, AreMarked, EndState, is_found}
 use Rattle.pull_targets.specs.Ends.{ends_at}
 
@@ -52,13 +49,12 @@ one_more_end s r t es k d small so_far one =
     (found_both s r t (ends_at (take k es)) (λ v. eqb (get_or es k d).dst v) so_far one)
 
 -- ---- marks
-pub none_marked : (n : ℕ) → AreMarked (replicate n false) []
-none_marked n = record {
+pub none_marked : (n m : ℕ) → AreMarked n (replicate m false) []
+none_marked n m = record {
   below = All-nil _;
-  once = IsDistinct-from_apart eqb [] (λ i j d l small. absurd (omega arith));
   marked = λ v small.
-      let long = length-replicate n false in
-      get_or-replicate n v false false (omega arith);
+      let long = length-replicate m false in
+      get_or-replicate m v false false (omega arith);
 }
 
 pub found_more : (ends : List ℕ) (v w : ℕ)
@@ -67,34 +63,38 @@ found_more ends v w =
     list_any-append (λ x. eqb x w) ends (v ∷ [])
     ∙ ap (λ b. is_found ends w || b) (or_false (eqb v w))
 
-module _ (marks : List Bool) (ends : List ℕ) (ok : AreMarked marks ends) (v : ℕ)
-    (there : v < length marks) where
+module _ (n : ℕ) (marks : List Bool) (ends : List ℕ) (ok : AreMarked n marks ends) (v : ℕ) where
+  -- a vertex whose mark is set has one
+  set_has : get_or marks v false ≡ true → v < length marks
+  set_has marked =
+      elim (cases_lt v (length marks)) [
+        | inl small ↦ small
+        | inr past ↦ absurd (true≢false (sym marked ∙ get_or_past marks v false past))
+      ]
+
   pub found_already : get_or marks v false ≡ true → (w : ℕ)
       → is_found ends w ≡ (is_found ends w || eqb v w)
   found_already marked w =
       elim (cases_eq v w) [
         | inl same ↦
             let found : is_found ends w ≡ true =
-            ap (is_found ends) (sym same) ∙ sym (ok.marked v there) ∙ marked in
+            ap (is_found ends) (sym same) ∙ sym (ok.marked v (set_has marked)) ∙ marked in
             found ∙ sym (ap (λ b. b || eqb v w) found)
         | inr apart ↦ sym (ap (λ b. is_found ends w || b) (ne_eqb v w apart)
             ∙ or_false (is_found ends w))
       ]
 
-  pub marked_more : get_or marks v false ≡ false → AreMarked (set marks v true) (ends ++ v ∷ [])
-  marked_more unmarked =
+  pub marked_more : v < n → AreMarked n (set marks v true) (ends ++ v ∷ [])
+  marked_more there =
       let long = length-set marks v true in
-      let new : is_found ends v ≡ false = sym (ok.marked v there) ∙ unmarked in
       record {
-        below = All-push (λ x. x < length (set marks v true)) ends v
-            (λ k d small. let low = ok.below k d small in omega arith) (omega arith);
-        once = IsDistinct-push nat_eq_equiv ends v ok.once
-            ((λ j. list_any (λ x. eqb_flips v x j) ends) ∙ new);
+        below = All-push (λ x. x < n) ends v ok.below there;
         marked = λ w small. elim (cases_eq w v) [
           | inl same ↦ ap (λ k. get_or (set marks v true) k false) same
-              ∙ get_or-set_same marks v true false there
+              ∙ get_or-set_same marks v true false (omega arith)
               ∙ sym (ap (is_found (ends ++ v ∷ [])) same ∙ found_more ends v v
-              ∙ (λ j. new j || eq-eqb v v refl j))
+              ∙ ap (λ b. is_found ends v || b) (eq-eqb v v refl)
+              ∙ or-true (is_found ends v))
           | inr apart ↦ get_or-set_other marks v w true false apart
               ∙ ok.marked w (omega arith)
               ∙ sym (found_more ends v w

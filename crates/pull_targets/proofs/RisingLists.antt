@@ -1,14 +1,19 @@
 -- A rising list is the filter of a range by what it contains.
-use Rattle.std.proofs.Common.{◌≡◌, ℕ, zero, suc, ◌+◌, ◌<◌, ◌≤◌, Bool, true, false, ◌||◌, cond, eqb}
+use Rattle.std.proofs.Common.{◌≡◌, ℕ, zero, suc, ◌+◌, ◌<◌, ◌≤◌, Bool, false, ◌||◌, cond, eqb}
 use Rattle.std.proofs.Common.{List, [], ◌∷◌, filter, length, get_or, refl, sym, ap, ◌∙◌, subst}
-use Rattle.std.proofs.Common.{arith, inl, inr}
-use Rattle.std.specs.List.{All, IsDistinct, list_any, range_with_len}
+use Rattle.std.proofs.Common.{arith, inl, inr, true≢false}
+use Rattle.std.specs.List.{All, dedup, list_any, range_with_len}
 use Rattle.std.specs.List.Sorted.{IsPermutation, IsSorted, IsStrictlyIncreasing}
 use Rattle.std.specs.Ordering.{nat_cmp}
-use Rattle.std.proofs.lemmas.Bool.{cases_eq, eq-eqb, ne_eqb}
-use Rattle.std.proofs.lemmas.List.Sorted.{All-permutation, IsNonDecreasingBy-from_sort}
-use Rattle.std.proofs.lemmas.List.Sorted.{list_any-IsPermutation}
-use Rattle.std.proofs.lemmas.Map.Keys.{IsDistinct-IsPermutation, IsStrictlyIncreasing-from_distinct}
+use Rattle.std.proofs.lemmas.Bool.{cases_Bool, cases_eq, eq-eqb, eqb-true, false_from_ne_true}
+use Rattle.std.proofs.lemmas.Bool.{ne_eqb}
+use Rattle.std.proofs.lemmas.Cmp.{nat_eq_equiv}
+use Rattle.std.proofs.lemmas.List.Filters.{All-dedup}
+use Rattle.std.proofs.lemmas.List.Kept.{Contains-dedup_nat, Contains-from_dedup}
+use Rattle.std.proofs.lemmas.List.Sorted.{All-permutation, list_any-IsPermutation}
+use Rattle.std.proofs.lemmas.Map.Keys.{IsStrictlyIncreasing-dedup}
+use Rattle.std.proofs.lemmas.Map.Views.{Contains-from_any, list_any-from_Contains}
+use Rattle.run_model.proofs.Named.{any-same}
 
 -- each number is at least m, and above those before it
 abbrev Rises : ℕ → List ℕ → Type 0
@@ -77,23 +82,36 @@ rising_filter q (suc n) m (x ∷ xs) up low same =
           (λ v above under. same v (omega arith) (omega arith))
     ]
 
-pub eqb_flips : (x y : ℕ) → eqb x y ≡ eqb y x
+eqb_flips : (x y : ℕ) → eqb x y ≡ eqb y x
 eqb_flips x y =
     elim (cases_eq x y) [
       | inl same ↦ eq-eqb x y same ∙ sym (eq-eqb y x (sym same))
       | inr apart ↦ ne_eqb x y apart ∙ sym (ne_eqb y x (λ e. apart (sym e)))
     ]
 
--- distinct numbers below n, sorted
-pub sorted_filter : (n : ℕ) (xs ys : List ℕ) → All (λ x. x < n) xs → IsDistinct eqb xs
+-- a list without its repeats contains the same numbers
+among_dedup : (xs : List ℕ) (v : ℕ)
+    → list_any (λ x. eqb x v) xs ≡ list_any (λ x. eqb x v) (dedup eqb xs)
+among_dedup xs v =
+    any-same (λ x. eqb x v) (eqb v) (λ x. eqb_flips x v) xs
+    ∙ elim (cases_Bool (list_any (eqb v) xs)) [
+      | inl among ↦ among ∙ sym (list_any-from_Contains nat_eq_equiv v (dedup eqb xs)
+          (Contains-dedup_nat xs v (Contains-from_any eqb-true v xs among)))
+      | inr not_among ↦ not_among ∙ sym (false_from_ne_true (list_any (eqb v) (dedup eqb xs))
+          (λ left. true≢false (sym (list_any-from_Contains nat_eq_equiv v xs
+          (Contains-from_dedup eqb xs v (Contains-from_any eqb-true v (dedup eqb xs) left)))
+          ∙ not_among)))
+    ]
+    ∙ sym (any-same (λ x. eqb x v) (eqb v) (λ x. eqb_flips x v) (dedup eqb xs))
+
+-- numbers below n, sorted and without repeats
+pub sorted_filter : (n : ℕ) (xs ys : List ℕ) → All (λ x. x < n) xs
     → IsPermutation xs ys → IsSorted nat_cmp ys
-    → ys ≡ filter (λ v. list_any (λ x. eqb x v) xs) (range_with_len 0 n)
-sorted_filter n xs ys low apart moved sorted =
-    let up : IsStrictlyIncreasing ys =
-    IsStrictlyIncreasing-from_distinct ys (IsNonDecreasingBy-from_sort (λ x. x) ys sorted)
-    (IsDistinct-IsPermutation eqb eqb_flips xs ys moved apart) in
-    sym (rising_filter (λ v. list_any (λ x. eqb x v) xs) n 0 ys
-    (rises_on 0 ys (λ some. omega arith) up)
-    (subst (λ k. Below k ys) (let none : n ≡ 0 + n = omega arith in none)
-    (below_all n ys (All-permutation (λ x. x < n) xs ys moved low)))
-    (λ v above under. list_any-IsPermutation (λ x. eqb x v) xs ys moved))
+    → dedup eqb ys ≡ filter (λ v. list_any (λ x. eqb x v) xs) (range_with_len 0 n)
+sorted_filter n xs ys low moved sorted =
+    sym (rising_filter (λ v. list_any (λ x. eqb x v) xs) n 0 (dedup eqb ys)
+    (rises_on 0 (dedup eqb ys) (λ some. omega arith) (IsStrictlyIncreasing-dedup ys sorted))
+    (subst (λ k. Below k (dedup eqb ys)) (let none : n ≡ 0 + n = omega arith in none)
+    (below_all n (dedup eqb ys) (All-dedup eqb (λ x. x < n) ys
+    (All-permutation (λ x. x < n) xs ys moved low))))
+    (λ v above under. list_any-IsPermutation (λ x. eqb x v) xs ys moved ∙ among_dedup ys v))

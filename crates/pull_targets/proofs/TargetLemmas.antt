@@ -1,5 +1,5 @@
 -- The ends of edges out of some vertices, and that they are targets.
-use Rattle.std.proofs.Common.{◌≡◌, ℕ, ◌+◌, ◌-◌, ◌<◌, Bool, not, ◌||◌, ◌&&◌, true, false, eqb, List}
+use Rattle.std.proofs.Common.{◌≡◌, ℕ, ◌+◌, ◌<◌, Bool, not, ◌||◌, ◌&&◌, true, false, eqb, List}
 use Rattle.std.proofs.Common.{[]}
 use Rattle.std.proofs.Common.{take, filter, length, get_or, refl, sym, ap, ◌∙◌, arith}
 use Rattle.std.specs.List.{All, list_any, range_with_len}
@@ -11,8 +11,7 @@ use Rattle.bolt_base.specs.Graph.{Graph, edges, out_edges, vertices}
 use Rattle.bolt_base.proofs.EdgeMap.{All-edges_at}
 use Rattle.bolt_base.specs.declared.edge.Edge.{Edge}
 use Rattle.bolt_base.proofs.SelfChange.{added-self, removed-self}
-use Rattle.vertex_expr.specs.declared.program.ProgramEntries.{ProgramEntries}
-use Rattle.run_model.specs.Steps.{Step, active, dirty, tail_step, tail_targets, targets, is_dirty}
+use Rattle.run_model.specs.Steps.{tail_step, is_dirty}
 use Rattle.run_model.proofs.Refinement.{is_tail}
 use Rattle.run_model.proofs.Named.{among_dirty, any-and, any-filter, any-same, any-swap}
 use Rattle.pull_targets.specs.EndList.{AreFound, EndState, is_found}

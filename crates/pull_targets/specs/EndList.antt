@@ -1,7 +1,7 @@
--- Vertices that were found, each once.
+-- Vertices that were found.
 use Rattle.std.specs.Prelude.{◌≡◌, ℕ, ◌<◌, ◌==◌, Bool, ◌||◌, false, List, length}
 use Rattle.std.specs.Prelude.{slice_index_or}
-use Rattle.std.specs.List.{All, IsDistinct, list_any}
+use Rattle.std.specs.List.{All, list_any}
 
 -- among vertices below a number
 pub record EndState : Type 0 where
@@ -17,8 +17,7 @@ pub record AreFound (old : EndState) (passes : ℕ → Bool) (new : EndState) : 
   pub vertices : new.vertices ≡ old.vertices
   pub ends : (v : ℕ) → is_found new.ends v ≡ (is_found old.ends v || passes v)
 
--- each vertex is marked where it was found, and was found once
-pub record AreMarked (marks : List Bool) (ends : List ℕ) : Type 0 where
-  pub below : All (λ v. v < length marks) ends
-  pub once : IsDistinct (λ x y. x == y) ends
+-- those found are below a number, and one that has a mark is marked where it was found
+pub record AreMarked (vertices : ℕ) (marks : List Bool) (ends : List ℕ) : Type 0 where
+  pub below : All (λ v. v < vertices) ends
   pub marked : (v : ℕ) → v < length marks → slice_index_or marks v false ≡ is_found ends v

@@ -11,6 +11,9 @@ use adjacency::{Adjacency, Metered, Near};
 use bolt_base::{Edge, Memory, Meter, TargetList};
 use std::alloc::Global;
 
+// With more vertices than this for each end, the ends are sorted and no vertex is marked.
+const VERTICES_AN_END: u32 = 16;
+
 // Finds the ends of edges.
 fn find_ends(found: &mut EndList, edges: &[Edge]) -> Result<(), Memory>
     requires there { All (λ e. e.dst < found.old.vertices) edges.now }
@@ -48,9 +51,25 @@ fn find_ends_from<M: Meter, A: Metered<M>>(
     Ok(())
 }
 
+// How many vertices have a mark where the ends of so many changed edges and of the edges out of the
+// sources are found: all, or none where these edges are few beside the vertices.
+fn marks_for<A: Adjacency>(graph: &A, changed: usize, sources: &[u32]) -> u32
+    requires sources { All (λ u. u < vertices (A.plain graph.now)) sources.now }
+    ensures within { result ≤ vertices (A.plain graph.now) }
+{
+    let mut found = changed as u64;
+    for u in sources {
+        found = found.saturating_add(u64::from(graph.out_degree(*u)));
+    }
+    let vertices = graph.vertices();
+    if found < u64::from(vertices / VERTICES_AN_END) {
+        return 0;
+    }
+    vertices
+}
+
 /// The vertices where a removed or an added edge ends, or an edge of the graph out of one of the
-/// sources, each once, rising. It reads each edge out of a source once, and takes a byte for each
-/// vertex of the graph.
+/// sources, each once, rising. It reads each edge out of a source once.
 pub fn targets_of<M: Meter, A: Metered<M>>(
     alloc: Global,
     graph: &A,
@@ -69,7 +88,9 @@ pub fn targets_of<M: Meter, A: Metered<M>>(
         ≤ M.counted meter.old + out_visits (A.plain graph.now) sources.now }
     ensures units { M.held meter.new ≡ M.held meter.old }
 {
-    let mut found = EndList::new(alloc, graph.vertices())?;
+    let changed = removed.len().saturating_add(added.len());
+    let marks = marks_for(graph, changed, sources);
+    let mut found = EndList::new(alloc, graph.vertices(), marks)?;
     find_ends(&mut found, removed)?;
     find_ends(&mut found, added)?;
     for u in sources {

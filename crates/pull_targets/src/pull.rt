@@ -8,13 +8,16 @@ ghost use Rattle.run_model.specs.Rows.{gathered};
 ghost use Rattle.run_model.specs.Visits.{in_visits};
 ghost use Rattle.pull_targets.specs.Reading.{CanPull, CanPullPart, part};
 
-use adjacency::Metered;
+use adjacency::{Adjacency, Metered};
 use bolt_base::{Lanes, Memory, Meter};
 use run_model::Contributions;
 use std::alloc::Global;
 use std::thread::{Threads, join_mut};
 use vertex_expr::Program;
 use vertex_steps::{ValueRow, pull};
+
+// A worker has at least this much work where there are several.
+const WORK_OF_A_WORKER: u64 = 4096;
 
 // The aggregates of the targets from one place up to, and without, another one.
 fn pull_each<M: Meter, A: Metered<M>, V: ValueRow>(
@@ -51,24 +54,77 @@ fn pull_each<M: Meter, A: Metered<M>, V: ValueRow>(
     Ok(aggs)
 }
 
-// How many of so many the share of some workers has.
-fn share(all: usize, some: u32, workers: u32) -> usize
-    requires some { some ≤ workers }
-    requires workers { 1 ≤ workers }
-    ensures within { result ≤ all }
+// How much work some vertices are: one for each, and one for each edge into it.
+fn work_of<A: Adjacency>(graph: &A, targets: &[u32], from: usize, to: usize) -> u64
+    requires vertices { All (λ v. v < vertices (A.plain graph.now)) targets.now }
+    requires places { to ≤ length targets.now }
 {
-    all / workers as usize * some as usize
+    let mut work: u64 = 0;
+    for k in from..to {
+        work = work.saturating_add(1 + u64::from(graph.in_degree(targets[k])));
+    }
+    work
 }
 
-// Where the part of some workers ends.
-fn part_end(from: usize, to: usize, some: u32, workers: u32) -> usize
+// Of so much work the share of some workers.
+fn share(work: u64, some: u32, workers: u32) -> u64
+    requires some { some ≤ workers }
+    requires workers { 1 ≤ workers }
+    ensures within { result ≤ work }
+{
+    work / workers as u64 * some as u64
+}
+
+// The first place that so much work stands before, or the end.
+fn place_after<A: Adjacency>(graph: &A, targets: &[u32], from: usize, to: usize, work: u64) -> usize
+    requires vertices { All (λ v. v < vertices (A.plain graph.now)) targets.now }
     requires range { from ≤ to }
+    requires places { to ≤ length targets.now }
+    ensures low { from ≤ result }
+    ensures high { result ≤ to }
+{
+    let mut before: u64 = 0;
+    for k in from..to {
+        if work <= before {
+            return k;
+        }
+        before = before.saturating_add(1 + u64::from(graph.in_degree(targets[k])));
+    }
+    to
+}
+
+// Where the part of some workers ends, so that each worker has as much work as the others.
+fn part_end<A: Adjacency>(
+    graph: &A,
+    targets: &[u32],
+    from: usize,
+    to: usize,
+    some: u32,
+    workers: u32,
+) -> usize
+    requires vertices { All (λ v. v < vertices (A.plain graph.now)) targets.now }
+    requires range { from ≤ to }
+    requires places { to ≤ length targets.now }
     requires some { some ≤ workers }
     requires workers { 1 ≤ workers }
     ensures low { from ≤ result }
     ensures high { result ≤ to }
 {
-    from + share(to - from, some, workers)
+    let work = share(work_of(graph, targets, from, to), some, workers);
+    place_after(graph, targets, from, to, work)
+}
+
+// How many of so many workers are worth starting for so much work.
+fn worth_starting(workers: u32, work: u64) -> u32
+    requires workers { 1 ≤ workers }
+    ensures some { 1 ≤ result }
+    ensures most { result ≤ workers }
+{
+    let more = work / WORK_OF_A_WORKER;
+    if more < u64::from(workers) {
+        return (more as u32).max(1);
+    }
+    workers
 }
 
 // The aggregates of the targets from one place up to, and without, another one, each half by a
@@ -102,7 +158,7 @@ fn half<R: Threads + Sync, M: Meter + Send, A: Metered<M> + Sync, V: ValueRow + 
     }
     let second_half = workers / 2;
     let first_half = workers - second_half;
-    let mid = part_end(from, to, first_half, workers);
+    let mid = part_end(graph, targets, from, to, first_half, workers);
     let mut second_meter = meter.split(second_half);
     let (first, second) = join_mut(
         rt,
@@ -163,8 +219,8 @@ fn half<R: Threads + Sync, M: Meter + Send, A: Metered<M> + Sync, V: ValueRow + 
     Ok(aggs)
 }
 
-/// The aggregates of some vertices, in their order, by so many workers. It reads each edge into
-/// each of them once.
+/// The aggregates of some vertices, in their order, by so many workers or fewer. It reads each edge
+/// into each of them once.
 pub fn pull_targets<R: Threads + Sync, M: Meter + Send, A: Metered<M> + Sync, V: ValueRow + Sync>(
     rt: &R,
     alloc: Global,
@@ -188,6 +244,7 @@ pub fn pull_targets<R: Threads + Sync, M: Meter + Send, A: Metered<M> + Sync, V:
     ensures units { M.held meter.new ≡ M.held meter.old }
 {
     let all = targets.len();
+    let workers = worth_starting(workers, work_of(graph, targets, 0, all));
     half(
         rt, alloc, program, graph, row, given, targets, workers, 0, all, meter,
     )

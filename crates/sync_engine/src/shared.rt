@@ -14,12 +14,19 @@ use std::thread::Threads;
 use vertex_expr::Program;
 use vertex_steps::{ValueRow, first_value, source_gives};
 
+// The least length of a piece of all vertices, where there are no more pieces than workers.
+fn least_piece<A: Adjacency>(graph: &A, workers: u32) -> usize {
+    let pieces = workers.max(1);
+    (graph.vertices() / pieces) as usize
+}
+
 /// The first values.
 pub fn first_values_shared<R: Threads + Sync, A: Adjacency + Sync>(
     rt: &R,
     alloc: Global,
     program: &Program,
     graph: &A,
+    workers: u32,
 ) -> Result<Vec<Lanes>, Memory>
     requires safe { IsAccepted program.now }
     requires good { IsGood program.now.limits (A.plain graph.now) }
@@ -28,6 +35,7 @@ pub fn first_values_shared<R: Threads + Sync, A: Adjacency + Sync>(
 {
     let vals: Vec<Lanes> = (0..graph.vertices())
         .into_par_iter()
+        .with_min_len(least_piece(graph, workers))
         .map(
             |v: u32| -> Lanes
                 requires { IsAccepted program.now × IsGood program.now.limits (A.plain graph.now)
@@ -47,6 +55,7 @@ pub fn next_values_shared<R: Threads + Sync, A: Adjacency + Sync>(
     graph: &A,
     aggs: &[Lanes],
     vals: &[Lanes],
+    workers: u32,
 ) -> Result<Vec<Lanes>, Memory>
     requires before { IsBefore program.now (A.plain graph.now) vals.now }
     requires aggs { aggs.now
@@ -58,6 +67,7 @@ pub fn next_values_shared<R: Threads + Sync, A: Adjacency + Sync>(
 {
     let next: Vec<Lanes> = (0..graph.vertices())
         .into_par_iter()
+        .with_min_len(least_piece(graph, workers))
         .map(
             |v: u32| -> Lanes
                 requires { IsBefore program.now (A.plain graph.now) vals.now
@@ -80,6 +90,7 @@ pub fn sources_give_shared<R: Threads + Sync, A: Adjacency + Sync, V: ValueRow +
     program: &Program,
     graph: &A,
     row: &V,
+    workers: u32,
 ) -> Result<Vec<Lanes>, Memory>
     requires before { IsBefore program.now (A.plain graph.now) (V.values row.now) }
     ensures { IfOk result (λ given.
@@ -88,6 +99,7 @@ pub fn sources_give_shared<R: Threads + Sync, A: Adjacency + Sync, V: ValueRow +
 {
     let given: Vec<Lanes> = (0..graph.vertices())
         .into_par_iter()
+        .with_min_len(least_piece(graph, workers))
         .map(
             |u: u32| -> Lanes
                 requires { IsBefore program.now (A.plain graph.now) (V.values row.now)

@@ -32,7 +32,7 @@ pub fn first_values<R: Threads + Sync, A: Adjacency + Sync>(
     if workers == 1 {
         return first_values_alone(alloc, program, graph);
     }
-    first_values_shared(rt, alloc, program, graph)
+    first_values_shared(rt, alloc, program, graph, workers)
 }
 
 /// The values after these aggregates and the values before.
@@ -56,7 +56,7 @@ pub fn next_values<R: Threads + Sync, A: Adjacency + Sync>(
     if workers == 1 {
         return next_values_alone(alloc, program, graph, aggs, vals);
     }
-    next_values_shared(rt, alloc, program, graph, aggs, vals)
+    next_values_shared(rt, alloc, program, graph, aggs, vals, workers)
 }
 
 // What the edges out of each vertex give after a row of values, where weights don't matter.
@@ -77,7 +77,7 @@ fn sources_give<R: Threads + Sync, A: Adjacency + Sync>(
     if workers == 1 {
         return sources_give_alone(alloc, program, graph, &row);
     }
-    sources_give_shared(rt, alloc, program, graph, &row)
+    sources_give_shared(rt, alloc, program, graph, &row, workers)
 }
 
 /// What the edges give after a row of values, once for each source where weights don't matter.

@@ -1,14 +1,13 @@
 -- What stands ahead of a feed.
-use Rattle.std.proofs.Common.{◌≡◌, ℕ, suc, ◌+◌, ◌-◌, ◌<◌, ◌≤◌, ◌⊎◌, inl, inr, min, List, [], ◌∷◌}
+use Rattle.std.proofs.Common.{◌≡◌, ℕ, suc, ◌+◌, ◌-◌, ◌<◌, ◌≤◌, inl, inr, min, List, [], ◌∷◌}
 use Rattle.std.proofs.Common.{◌++◌, length, get_or, take, drop, All, refl, sym, ◌∙◌, ap, subst}
 use Rattle.std.proofs.Common.{arith, length-drop, append_assoc, Bool, true, false, Option, Some}
 use Rattle.std.proofs.Common.{None}
 use Rattle.std.specs.Prelude.{slice_range, nat_lt, IfSome}
-use Rattle.std.proofs.lemmas.List.{take-take, take_all, length-take, length-take-le, take-append-le}
+use Rattle.std.proofs.lemmas.List.{take-take, take_all, length-take, length-take-le}
 use Rattle.std.proofs.Common.{take-add}
-use Rattle.std.proofs.Math.Seq.{take-append-add}
 use Rattle.std.proofs.lemmas.Bool.Decides.{nat_tests}
-use borrow.Rule.Slice.PartMut.{put_mid, post_of}
+use borrow.Rule.Slice.PartMut.{put_mid}
 use Rattle.std.specs.Option.{option_map}
 use Rattle.std.proofs.lemmas.List.{append-nil, drop_all, drop-take, drop-drop}
 use Rattle.std.proofs.lemmas.List.Elements.{All-take}
@@ -16,6 +15,7 @@ use Rattle.std.proofs.Math.ListN.{length-set}
 use Rattle.bolt_io.specs.declared.whole.TheConstants.{MOST_BYTES}
 use Rattle.bolt_io.specs.Told.{Told, left, taken_from, GivesNext}
 use Rattle.bolt_io.proofs.TakenLemmas.{taken_from-none, taken_from-twice, left-taken_from}
+use Rattle.bolt_io.proofs.TakenLemmas.{filled_front}
 use Rattle.std.specs.List.{copy_within, prefix_len}
 use Rattle.std.proofs.lemmas.List.Edits.{take-paste}
 use Rattle.lexical.specs.Bytes.{is_line_feed, is_no_line_feed, without_carriage_return}
@@ -64,12 +64,8 @@ pub read_in : (told : Option Told) (slot at k n : ℕ) (block buf : List ℕ) �
     ≡ take at block ++ take n (left t slot))
 read_in None slot at k n block buf inside within gives = tt
 read_in (Some t) slot at k n block buf inside within gives =
-    let size : length (take at block) ≡ at = length-take-le at block inside in
-    let rest = post_of at k block in
-    let front : take (length (take at block) + n) (take at block ++ (buf ++ rest))
-    ≡ take at block ++ take n (buf ++ rest) = take-append-add (take at block) (buf ++ rest) n in
-    ap (λ (j : ℕ). take (j + n) (take at block ++ (buf ++ rest))) (sym size) ∙ front
-    ∙ ap (λ (l : List ℕ). take at block ++ l) (take-append-le n buf rest within ∙ gives.bytes)
+    filled_front block buf at k n inside within
+    ∙ ap (λ (l : List ℕ). take at block ++ l) gives.bytes
 
 is_ten : (b : ℕ) → is_line_feed b ≡ true → b ≡ 10
 is_ten b is = grind (arith, nat_tests)

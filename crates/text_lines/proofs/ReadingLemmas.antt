@@ -1,5 +1,5 @@
 -- What calls that read a slot say, one after another.
-use Rattle.std.proofs.Common.{◌≡◌, ℕ, ◌+◌, ◌-◌, ◌<◌, ◌≤◌, length, drop, refl, sym, ◌∙◌, ap, subst}
+use Rattle.std.proofs.Common.{◌≡◌, ℕ, ◌-◌, ◌<◌, ◌≤◌, length, drop, refl, sym, ◌∙◌, subst}
 use Rattle.std.proofs.Common.{arith, length-drop, Option, Some, None}
 use Rattle.std.specs.Prelude.{IfSome}
 use Rattle.bolt_io.specs.declared.whole.TheConstants.{MOST_BYTES}

@@ -1,5 +1,5 @@
 -- Expressions as trees.
-use Rattle.std.specs.Prelude.{ℕ, ℤ, ◌+◌, max}
+use Rattle.std.specs.Prelude.{ℕ, ℤ, ◌+◌, Bool, true, false, max}
 use Rattle.vertex_expr.specs.declared.expr.Compare.{Compare}
 
 -- an expression
@@ -45,6 +45,18 @@ depth (greatest a b) = max (depth a) (depth b) + 1
 depth (clamp x a b) = max (depth x) (max (depth a) (depth b)) + 1
 depth (choose c a b x y) = max (max (depth a) (depth b)) (max (depth x) (depth y)) + 1
 depth _ = 1
+
+-- whether it has operands; a leaf has none
+abbrev pub has_operands : Tree → Bool
+has_operands (plus a b) = true
+has_operands (minus a b) = true
+has_operands (times a b) = true
+has_operands (over a b) = true
+has_operands (least a b) = true
+has_operands (greatest a b) = true
+has_operands (clamp x a b) = true
+has_operands (choose c a b x y) = true
+has_operands _ = false
 
 -- how tightly an expression holds together, from loosest to tightest
 pub data Level : Type 0 where

@@ -1,11 +1,13 @@
 // The value of an expression.
-ghost use Rattle.std.specs.Prelude.{◌≡◌, ◌≢◌, ◌<◌, pos, length, slice_index_or};
+ghost use Rattle.std.specs.Prelude.{◌≡◌, ◌≢◌, ◌<◌, ◌^◌, ◌&&◌, pos, neg_ℤ, true, length};
+ghost use Rattle.std.specs.Prelude.{int_le, int_lt, slice_index_or};
 ghost use Rattle.vertex_expr.specs.Fit.{IsFit};
 ghost use Rattle.vertex_expr.specs.Floor.{floor_div};
 ghost use Rattle.vertex_expr.specs.Meaning.{ev, holds};
 ghost use Rattle.vertex_expr.specs.Node.{tree_of};
 ghost use Rattle.vertex_expr.specs.Safe.{IsEvaluable};
 ghost use Rattle.vertex_expr.specs.Span.{IsSmall};
+ghost use Rattle.vertex_expr.specs.Tree.{has_operands};
 ghost use Rattle.vertex_expr.specs.Writable.{values_of};
 
 use crate::env::Env;
@@ -21,6 +23,9 @@ pub fn eval(expr: &Expr, program: &Program, env: &Env) -> i128
     value(expr, program.entries().params.as_slice(), env)
 }
 
+// What it means, for whichever expression. One without operands is read at once.
+#[cycle(value)]
+#[inline]
 fn value(expr: &Expr, params: &[NamedParam], env: &Env) -> i128
     requires fit { IsFit (values_of params.now) env.now (tree_of expr.now) }
     ensures value { result ≡ ev (values_of params.now) env.now (tree_of expr.now) }
@@ -35,6 +40,19 @@ fn value(expr: &Expr, params: &[NamedParam], env: &Env) -> i128
         Expr::Id => i128::from(env.id),
         Expr::Agg(k) => i128::from(env.agg.get(*k)),
         Expr::Old(k) => i128::from(env.old.get(*k)),
+        _ => composed(expr, params, env),
+    }
+}
+
+// What an expression with operands means.
+#[cycle(value)]
+#[inline(never)]
+fn composed(expr: &Expr, params: &[NamedParam], env: &Env) -> i128
+    requires operands { has_operands (tree_of expr.now) ≡ true }
+    requires fit { IsFit (values_of params.now) env.now (tree_of expr.now) }
+    ensures value { result ≡ ev (values_of params.now) env.now (tree_of expr.now) }
+{
+    match expr {
         Expr::Plus(a, b) => value(a.get(), params, env) + value(b.get(), params, env),
         Expr::Minus(a, b) => value(a.get(), params, env) - value(b.get(), params, env),
         Expr::Times(a, b) => value(a.get(), params, env) * value(b.get(), params, env),
@@ -53,6 +71,7 @@ fn value(expr: &Expr, params: &[NamedParam], env: &Env) -> i128
                 value(y.get(), params, env)
             }
         }
+        _ => 0,
     }
 }
 
@@ -73,10 +92,33 @@ pub fn floor_div(a: i128, b: i128) -> i128
     ensures quotient { result ≡ floor_div a b }
 {
     if 0 < b {
-        a.div_euclid(b)
+        floor_by(a, b)
     } else {
-        (-a).div_euclid(-b)
+        floor_by(-a, -b)
     }
+}
+
+// The same by a number above 0. Where both have 64 bits, so has the division.
+#[inline]
+fn floor_by(a: i128, b: i128) -> i128
+    requires positive { int_lt (pos 0) b ≡ true }
+    requires left { IsSmall a }
+    requires right { IsSmall b }
+    ensures quotient { result ≡ floor_div a b }
+{
+    if is_short(a) && is_short(b) {
+        i128::from((a as i64).div_euclid(b as i64))
+    } else {
+        a.div_euclid(b)
+    }
+}
+
+// Whether it has 64 bits.
+#[inline]
+fn is_short(x: i128) -> bool
+    ensures answer { result ≡ (int_le (neg_ℤ (pos (2 ^ 63))) x && int_lt x (pos (2 ^ 63))) }
+{
+    -(1 << 63) <= x && x < 1 << 63
 }
 
 impl Compare {

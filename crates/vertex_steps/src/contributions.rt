@@ -1,11 +1,12 @@
 // What the edges give in an iteration.
-ghost use Rattle.std.specs.Prelude.{◌≡◌, ◌<◌};
+ghost use Rattle.std.specs.Prelude.{◌≡◌, ◌<◌, length};
 ghost use Rattle.bolt_base.specs.Graph.{vertices};
-ghost use Rattle.run_model.specs.Program.{by_lane};
+ghost use Rattle.run_model.specs.Program.{OnesFit, by_lane, lanes, with_ones};
 ghost use Rattle.run_model.specs.Rows.{contribution, contribute_env};
 ghost use Rattle.run_model.specs.Evaluable.{AreEvaluable};
 ghost use Rattle.run_model.specs.Given.{AreGiven, IsBefore, IsEdge, edge_gives, source_gives};
 
+use crate::gathering::gather;
 use crate::value_row::ValueRow;
 use adjacency::Adjacency;
 use bolt_base::{Edge, Lanes};
@@ -63,21 +64,32 @@ pub fn source_gives<A: Adjacency, V: ValueRow>(
     evaluated_at(program, graph, row, u, weight)
 }
 
-/// What an edge contributes, lane by lane.
-pub fn edge_gives<A: Adjacency, V: ValueRow>(
+/// Adds what an edge contributes to what others came to, lane by lane. A contribution that stands
+/// in a table is read there and not copied.
+#[inline]
+pub fn gather_edge<A: Adjacency, V: ValueRow>(
     program: &Program,
     graph: &A,
     row: &V,
     given: &Contributions,
     e: Edge,
-) -> Lanes
+    totals: &mut Lanes,
+)
     requires before { IsBefore program.now (A.plain graph.now) (V.values row.now) }
     requires given { AreGiven program.now (A.plain graph.now) (V.values row.now) given.now }
     requires edge { IsEdge program.now (A.plain graph.now) e }
-    ensures numbers { result ≡ edge_gives program.now (A.plain graph.now) (V.values row.now) e }
+    requires long { length totals.old ≡ lanes program.now }
+    requires fits { OnesFit program.now totals.old
+        (edge_gives program.now (A.plain graph.now) (V.values row.now) e) }
+    ensures totals { totals.new ≡ with_ones program.now totals.old
+        (edge_gives program.now (A.plain graph.now) (V.values row.now) e) }
 {
+    let combine = program.entries().combine;
     match given {
-        Contributions::BySource(given) => given[e.src as usize],
-        Contributions::ByEdge => evaluated_at(program, graph, row, e.src, e.weight),
+        Contributions::BySource(given) => gather(combine, totals, &given[e.src as usize]),
+        Contributions::ByEdge => {
+            let ones = evaluated_at(program, graph, row, e.src, e.weight);
+            gather(combine, totals, &ones);
+        }
     }
 }

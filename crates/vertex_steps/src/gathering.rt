@@ -19,7 +19,7 @@ pub fn gather(combine: Combine, totals: &mut Lanes, ones: &Lanes)
         ≡ map (λ l. with_one combine (number totals.old l) (number ones.now l))
         (range_with_len 0 (length ones.now)) }
 {
-    for lane in 0..ones.width() {
+    for lane in 0..totals.width() {
         let total = with_one(combine, totals.get(lane), ones.get(lane));
         totals.set(lane, total);
     }

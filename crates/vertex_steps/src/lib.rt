@@ -8,7 +8,7 @@ mod pulling;
 mod value_row;
 mod values;
 
-pub use contributions::{edge_gives, evaluated_at, source_gives};
+pub use contributions::{evaluated_at, gather_edge, source_gives};
 pub use gathering::gather;
 pub use pulling::pull;
 pub use value_row::{LaneRow, ValueRow};

@@ -4,8 +4,7 @@ ghost use Rattle.bolt_base.specs.Graph.{vertices, indeg};
 ghost use Rattle.run_model.specs.Rows.{gathered};
 ghost use Rattle.run_model.specs.Given.{AreGiven, IsBefore};
 
-use crate::contributions::edge_gives;
-use crate::gathering::gather;
+use crate::contributions::gather_edge;
 use crate::value_row::ValueRow;
 use adjacency::{Metered, Near};
 use bolt_base::{Lanes, Meter};
@@ -29,13 +28,11 @@ pub fn pull<M: Meter, A: Metered<M>, V: ValueRow>(
     ensures count { M.counted meter.new ≡ M.counted meter.old + indeg (A.plain graph.now) v }
     ensures units { M.held meter.new ≡ M.held meter.old }
 {
-    let combine = program.entries().combine;
     let mut near = Near::new();
     let mut totals = empties(program);
     for k in 0..graph.in_degree(v) {
         let e = graph.in_edge_near(v, k, &mut near, meter);
-        let ones = edge_gives(program, graph, row, given, e);
-        gather(combine, &mut totals, &ones);
+        gather_edge(program, graph, row, given, e, &mut totals);
     }
     totals
 }

@@ -1,6 +1,6 @@
 use Rattle.std.proofs.lemmas.Result.{err_from_is_err_and}
-use Rattle.std.proofs.Common.{◌≡◌, ℕ, Ok, Err}
-use Rattle.batch_run.proofs.BatchSteps.{feed_cause, feed_turns, feed_wanted, read_stop-ok}
+use Rattle.batch_run.proofs.BatchSteps.{feed_cause, feed_stands, feed_turns, feed_wanted}
+use Rattle.batch_run.proofs.BatchSteps.{read_stop-ok}
 use Rattle.batch_run.proofs.batches.next_batch.Goals as goal
 
 -- ---- a batch, or the end
@@ -56,3 +56,8 @@ pub returns-in_err-next-clause-cause : goal.returns-in_err-next-clause-cause
 returns-in_err-next-clause-cause g c =
     let p = err_from_is_err_and c.from_residual.result c.from_residual.ensures.1 in
     rw (p.1, p.2) (feed_cause c.in_err-next.field-0.0 _ _ c.in_err-next.ensures.reads.reads.blames)
+
+pub returns-in_err-next-clause-stops : goal.returns-in_err-next-clause-stops
+returns-in_err-next-clause-stops g c =
+    let p = err_from_is_err_and c.from_residual.result c.from_residual.ensures.1 in
+    rw (p.1, p.2) (feed_stands _ c.in_err-next.field-0.0 c.in_err-next.ensures.reads.stops)

@@ -1,10 +1,8 @@
-use Rattle.std.proofs.Common.{◌≡◌, ◌≤◌, ◌++◌, ℕ, List, length, take, sym, ◌∙◌, ap, subst, arith}
-use Rattle.std.proofs.Common.{rules, length-append}
-use Rattle.std.specs.Option.{option_map}
-use Rattle.std.specs.Prelude.{IfSome}
+use Rattle.std.proofs.Common.{◌+◌, ◌-◌, ◌≤◌, ℕ, List, length, take, drop, sym, ap, ◌∙◌}
+use Rattle.std.proofs.Common.{subst, arith, rules, length-append, length-drop}
 use Rattle.std.proofs.lemmas.List.{length-take}
-use Rattle.bolt_io.specs.Told.{Took, taken_from, left, GivesNext}
-use Rattle.bolt_io.proofs.TakenLemmas.{Took-none, Took-then, Took-end, slot_told}
+use Rattle.bolt_io.specs.Told.{Took}
+use Rattle.bolt_io.proofs.TakenLemmas.{Took-none, Took-then, read_behind, slot_told}
 use Rattle.bolt_io.proofs.whole.read_whole.Goals as goal
 
 pub pieces-init : goal.pieces-init
@@ -21,55 +19,87 @@ pub returns-then-n-eq0-clause-took : goal.returns-then-n-eq0-clause-took
 returns-then-n-eq0-clause-took g c =
     let below = slot_told (g.S.Shelf.told c.args.shelf.now) (g.S.Shelf.opened c.args.shelf.now)
     c.args.slot (g.met.S.Shelf.tells_slots c.args.shelf.now) c.requires in
-    let told = subst (λ n. g.S.Shelf.told c.read.new.self
-    ≡ option_map (taken_from c.args.slot n) (g.S.Shelf.told c.pieces.shelf)) c.if-n-eq0.true
-    c.in-Ok.ensures.told in
-    let gives = subst (λ n. IfSome (g.S.Shelf.told c.pieces.shelf)
-    (λ t. GivesNext (left t c.args.slot) n c.read.new.buf)) c.if-n-eq0.true
-    c.in-Ok.ensures.bytes in
-    (Took-end _ _ _ c.args.slot _ _ below c.pieces.invariant.took told gives).0
+    let n = c.in-Ok-read.n in
+    let buf = c.read.new.buf in
+    let at = c.len-taken.result in
+    let view = c.deref_mut.result.now in
+    let whole = c.read.auto.buf in
+    let within : n ≤ length buf = omega (arith, c.in-Ok-read.ensures.within, whole) in
+    let size = c.pieces.bytes.ok.0 in
+    let grown = c.in-Ok.ensures.len in
+    let full = c.resize.new.self.ok.0 in
+    let seen = ap length c.deref_mut.ensures.value in
+    let room : at + n ≤ c.resize.new.self.len =
+    omega (
+      arith,
+      within,
+      whole,
+      grown,
+      full,
+      seen,
+      length-take (length view - at) (drop at view),
+      length-drop at view,
+    ) in
+    let is = read_behind c.pieces.bytes.items c.resize.new.self.items view
+    c.truncate.new.self.items buf _ at _ n c.resize.new.self.len (at + c.min-room.result)
+    (omega (arith, c.len-taken.ensures, size)) (omega arith) c.in-Ok.ensures.items
+    c.deref_mut.ensures.value within room c.truncate.ensures.items in
+    let took = Took-then _ _ _ c.args.slot n _ buf below c.pieces.invariant.took
+    c.in-Ok-read.ensures.told c.in-Ok-read.ensures.bytes within in
+    subst (λ (l : List ℕ). Took (g.S.Shelf.told c.args.shelf.now) (g.S.Shelf.told c.read.new.self)
+    c.args.slot l) (sym {A = List ℕ} is) took
 
 pub returns-then-n-eq0-clause-part : goal.returns-then-n-eq0-clause-part
-returns-then-n-eq0-clause-part g c = (c.pieces.bytes.items, returns-then-n-eq0-clause-took g c)
+returns-then-n-eq0-clause-part g c =
+    (c.truncate.new.self.items, returns-then-n-eq0-clause-took g c)
 
 pub pieces-preserved : goal.pieces-preserved
 pieces-preserved g c =
     let below = slot_told (g.S.Shelf.told c.args.shelf.now) (g.S.Shelf.opened c.args.shelf.now)
     c.args.slot (g.met.S.Shelf.tells_slots c.args.shelf.now) c.requires in
-    let n = c.in-Ok.n in
-    let items = c.in-Ok-extend_from_slice.ensures.items in
+    let n = c.in-Ok-read.n in
+    let buf = c.read.new.buf in
+    let at = c.len-taken.result in
+    let view = c.deref_mut.result.now in
     let whole = c.read.auto.buf in
-    let in_buf : n ≤ length c.read.new.buf = omega (arith, c.in-Ok.ensures.within, whole) in
-    let room : n ≤ c.min-room.result = omega
-    (arith, c.in-Ok.ensures.within, length-take c.min-room.result c.pieces.buf) in
-    let took = Took-then _ _ _ c.args.slot n _ c.read.new.buf below c.pieces.invariant.took
-    c.in-Ok.ensures.told c.in-Ok.ensures.bytes in_buf in
+    let within : n ≤ length buf = omega (arith, c.in-Ok-read.ensures.within, whole) in
+    let size = c.pieces.bytes.ok.0 in
+    let grown = c.in-Ok.ensures.len in
+    let full = c.resize.new.self.ok.0 in
+    let seen = ap length c.deref_mut.ensures.value in
+    let room : at + n ≤ c.resize.new.self.len =
+    omega (
+      arith,
+      within,
+      whole,
+      grown,
+      full,
+      seen,
+      length-take (length view - at) (drop at view),
+      length-drop at view,
+    ) in
+    let is = read_behind c.pieces.bytes.items c.resize.new.self.items view
+    c.truncate.new.self.items buf _ at _ n c.resize.new.self.len (at + c.min-room.result)
+    (omega (arith, c.len-taken.ensures, size)) (omega arith) c.in-Ok.ensures.items
+    c.deref_mut.ensures.value within room c.truncate.ensures.items in
+    let took = Took-then _ _ _ c.args.slot n _ buf below c.pieces.invariant.took
+    c.in-Ok-read.ensures.told c.in-Ok-read.ensures.bytes within in
     record {
       took = subst (λ (l : List ℕ). Took (g.S.Shelf.told c.args.shelf.now)
-          (g.S.Shelf.told c.read.new.self) c.args.slot l) (sym {A = List ℕ} items) took;
+          (g.S.Shelf.told c.read.new.self) c.args.slot l) (sym {A = List ℕ} is) took;
       within = omega (
         arith,
-        ap length items,
-        length-append c.pieces.bytes.items
-            (take n c.read.new.buf),
-        length-take n c.read.new.buf,
+        ap length is,
+        length-append c.pieces.bytes.items (take n buf),
+        length-take n buf,
+        size,
+        grown,
+        full,
         room,
         c.min-room.ensures,
-        c.len-in-pieces.ensures,
+        c.len-taken.ensures,
         c.pieces.invariant.within,
       );
-      opened = c.in-Ok.ensures.opened ∙ c.pieces.invariant.opened;
-      calm = c.in-Ok.ensures.calm ∙ c.pieces.invariant.calm;
+      opened = c.in-Ok-read.ensures.opened ∙ c.pieces.invariant.opened;
+      calm = c.in-Ok-read.ensures.calm ∙ c.pieces.invariant.calm;
     }
-
-pub returns-in_default-clause-part : goal.returns-in_default-clause-part
-returns-in_default-clause-part g c =
-    let below = slot_told (g.S.Shelf.told c.args.shelf.now) (g.S.Shelf.opened c.args.shelf.now)
-    c.args.slot (g.met.S.Shelf.tells_slots c.args.shelf.now) c.requires in
-    let n = c.in-Ok.n in
-    let whole = c.read.auto.buf in
-    let in_buf : n ≤ length c.read.new.buf = omega (arith, c.in-Ok.ensures.within, whole) in (
-      c.pieces.bytes.items ++ take n c.read.new.buf,
-      Took-then _ _ _ c.args.slot n _ c.read.new.buf
-          below c.pieces.invariant.took c.in-Ok.ensures.told c.in-Ok.ensures.bytes in_buf,
-    )

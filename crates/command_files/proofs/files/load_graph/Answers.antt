@@ -1,9 +1,3 @@
-use Rattle.std.proofs.Common.{◌≡◌, ◌<◌, ◌^◌, [], length, List, ℕ, Result, Ok, Err, IsOk, sym, subst}
-use Rattle.std.specs.Prelude.{IfSome, OnOk, OnErr, IfOk, IsErrOf, take}
-use Rattle.std.specs.Option.{option_map}
-use Rattle.bolt_io.specs.Told.{left, opened_at, TellsSlots}
-use Rattle.graph_text.specs.GraphText.{graph_of}
-use Rattle.command_files.proofs.FileSteps.{opened_bytes}
 use Rattle.command_files.proofs.GraphSteps.{Reads-graph, graph_of-file}
 use Rattle.command_files.proofs.files.load_graph.Goals as goal
 

@@ -1,5 +1,5 @@
 use Rattle.std.proofs.Common.{◌≡◌, ℕ, ℤ, pos, ◌+◌, ◌++◌, ◌∷◌, [], ◌∙◌, List, Option, map, ap, sym}
-use Rattle.std.proofs.Common.{refl, rules, w64, FitsSigned, to_z, of_z}
+use Rattle.std.proofs.Common.{rules, w64, FitsSigned}
 use Rattle.std.specs.List.{range_with_len}
 use Rattle.std.specs.Option.{unwrap_or}
 use Rattle.std.proofs.lemmas.Int.{to_z-of_z}

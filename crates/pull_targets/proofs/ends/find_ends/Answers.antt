@@ -1,4 +1,4 @@
-use Rattle.std.proofs.Common.{◌≡◌, ◌≤◌, ◌<◌, length, take, subst, arith}
+use Rattle.std.proofs.Common.{subst, arith}
 use Rattle.std.proofs.lemmas.List.{take_all}
 use Rattle.run_model.proofs.InRange.{no_edge}
 use Rattle.pull_targets.specs.EndList.{AreFound}

@@ -2,7 +2,7 @@ use Rattle.std.proofs.Common.{rules, arith, ◌≡◌, ◌≢◌, ℕ, ℤ, List
 use Rattle.std.proofs.Common.{◌∙◌}
 use Rattle.std.proofs.Common.{map}
 use Rattle.bolt_base.specs.Graph.{Graph}
-use Rattle.run_model.specs.Rows.{Lists, gathered}
+use Rattle.run_model.specs.Rows.{gathered}
 use Rattle.run_model.specs.Visits.{in_visits}
 use Rattle.pull_targets.specs.Reading.{CanPullPart, part}
 use Rattle.pull_targets.proofs.PartLemmas.{mapped_both, reads_both}

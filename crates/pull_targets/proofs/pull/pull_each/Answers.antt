@@ -1,4 +1,4 @@
-use Rattle.std.proofs.Common.{◌<◌, ◌≤◌, ◌∙◌, length, arith}
+use Rattle.std.proofs.Common.{◌≤◌, ◌∙◌, arith}
 use Rattle.bolt_base.specs.Graph.{Graph}
 use Rattle.run_model.specs.Rows.{gathered}
 use Rattle.pull_targets.proofs.PartLemmas.{mapped_more, reads_more, reads_within}

@@ -14,6 +14,8 @@ half-requires-clause-ready g c κs within =
     let ready = c.requires.ready in
     let same = ap (in_visits h) (part_all ts) in
     let room = ready.room in
+    let held = ready.units in
+    let fewer = c.worth_starting-workers.ensures.most in
     record {
       before = ready.before;
       contributions = ready.contributions;
@@ -21,8 +23,8 @@ half-requires-clause-ready g c κs within =
       range = omega arith;
       places = omega arith;
       room = omega arith;
-      some = ready.some;
-      units = ready.units;
+      some = c.worth_starting-workers.ensures.some;
+      units = omega arith;
     }
 
 pub returns : goal.returns

@@ -20,7 +20,8 @@ collect-requires-clause-ready g c κs within =
     (λ v. IsBefore p h c.args.vals.now
     × (c.args.aggs.now ≡ each_vertex h (gathered p h c.args.vals.now)) × (v < vertices h)) 0 n
     (λ v low high. (c.requires.before, c.requires.aggs, omega (arith, all))) in
-    rw (c.map.ensures.base, c.map.ensures.f, ends.0, ends.1) (λ k d lt. (inside k d lt, λ y q. tt))
+    rw (c.map.ensures.base, c.map.ensures.f, c.with_min_len.ensures.base, ends.0, ends.1)
+    (λ k d lt. (inside k d lt, λ y q. tt))
 
 pub returns : goal.returns
 returns g c =
@@ -32,6 +33,6 @@ returns g c =
     let f : ℕ → List ℤ = λ v.
     applied p h (gathered p h c.args.vals.now v) (at c.args.vals.now v) v in
     let ok = c.in_ok-next.ensures in
-    let chain = rw (c.map.ensures.base, c.map.ensures.f) at ok.1 in
+    let chain = rw (c.map.ensures.base, c.map.ensures.f, c.with_min_len.ensures.base) at ok.1 in
     let places = chain.1 ∙ (λ i. nat_range (ends.0 i) (ends.1 i)) ∙ ap (range_with_len 0) whole in
     ok.2 ∙ AllZip-map f chain.0 ok.0 chain.2 ∙ ap (map f) places

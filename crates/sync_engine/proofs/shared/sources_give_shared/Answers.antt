@@ -18,7 +18,8 @@ collect-requires-clause-ready g c κs within =
     let inside = nat_range-All (λ v. IsBefore p h (g.V.ValueRow.values c.args.row.now)
     × (v < vertices h)) 0 n
     (λ v low high. (c.requires.before, omega (arith, all))) in
-    rw (c.map.ensures.base, c.map.ensures.f, ends.0, ends.1) (λ k d lt. (inside k d lt, λ y q. tt))
+    rw (c.map.ensures.base, c.map.ensures.f, c.with_min_len.ensures.base, ends.0, ends.1)
+    (λ k d lt. (inside k d lt, λ y q. tt))
 
 pub returns : goal.returns
 returns g c =
@@ -29,6 +30,6 @@ returns g c =
     let ends = c.into_par_iter.ensures in
     let f : ℕ → List ℤ = source_gives p h (g.V.ValueRow.values c.args.row.now) in
     let ok = c.in_ok-given.ensures in
-    let chain = rw (c.map.ensures.base, c.map.ensures.f) at ok.1 in
+    let chain = rw (c.map.ensures.base, c.map.ensures.f, c.with_min_len.ensures.base) at ok.1 in
     let places = chain.1 ∙ (λ i. nat_range (ends.0 i) (ends.1 i)) ∙ ap (range_with_len 0) whole in
     ok.2 ∙ AllZip-map f chain.0 ok.0 chain.2 ∙ ap (map f) places

@@ -1,4 +1,4 @@
-use Rattle.std.proofs.Common.{◌∙◌, ◌≤◌, ℕ, List, ap, length, take}
+use Rattle.std.proofs.Common.{◌∙◌, ℕ, List, ap, length, take}
 use Rattle.text_lines.proofs.LineLemmas.{without_carriage_return-take}
 use Rattle.text_lines.proofs.line_feed.line_len.Goals as goal
 

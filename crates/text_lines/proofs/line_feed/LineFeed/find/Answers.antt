@@ -1,5 +1,5 @@
 use Rattle.std.proofs.Common.{rules, ◌≡◌, ◌≢◌, ◌<◌, ◌≤◌, ◌∙◌, ap, sym, subst, arith, refl, [], ℕ}
-use Rattle.std.proofs.Common.{suc, ◌-◌, ◌++◌, List, take, All, length, inl, inr, Option, Some, None}
+use Rattle.std.proofs.Common.{suc, ◌-◌, ◌++◌, take, length, inl, inr, Option, Some, None}
 use Rattle.std.specs.Prelude.{MatchOption, IfSome}
 use Rattle.bolt_io.specs.declared.whole.TheConstants.{MOST_BYTES}
 use Rattle.bolt_io.specs.Told.{Told, left}
@@ -10,7 +10,7 @@ use Rattle.std.specs.Prelude.{false}
 use Rattle.lexical.specs.Bytes.{is_line_feed}
 use Rattle.text_lines.specs.Feed.{Feed, ahead, bytes_after, ended_within, NeedsMore, IsFront}
 use Rattle.text_lines.specs.Feed.{IsLastLine, IsAtEnd}
-use Rattle.text_lines.specs.Reading.{IsSpent, FeedReads}
+use Rattle.text_lines.specs.Reading.{FeedReads}
 use Rattle.text_lines.proofs.FeedLemmas.{ahead_read, ended_read, after_read, ahead_kept, ended_kept}
 use Rattle.text_lines.proofs.FeedLemmas.{after_kept, below_later, last_found, still_ended}
 use Rattle.text_lines.proofs.ReadingLemmas.{so_far_none, so_far_on, reads_on, stops_early}

@@ -1,10 +1,8 @@
-use Rattle.std.proofs.Common.{rules, ◌≡◌, ◌∙◌, ℕ, arith, sym, ap, subst, refl, Option, Some, None}
-use Rattle.std.proofs.Common.{inl, inr}
+use Rattle.std.proofs.Common.{rules, ◌∙◌, sym, subst, Option}
 use Rattle.std.specs.Prelude.{MatchOption, IfSome}
-use Rattle.std.specs.Option.{option_map}
 use Rattle.bolt_io.specs.declared.whole.TheConstants.{MOST_BYTES}
 use Rattle.text_lines.specs.declared.line_feed.FrontLine.{FrontLine}
-use Rattle.text_lines.specs.Feed.{Feed, IsAtEnd, IsFront, IsStuck}
+use Rattle.text_lines.specs.Feed.{IsAtEnd, IsFront, IsStuck}
 use Rattle.bolt_io.proofs.TakenLemmas.{slot_told}
 use Rattle.text_lines.proofs.FeedLemmas.{stuck_before, ahead_front, ended_front_before}
 use Rattle.text_lines.proofs.FeedLemmas.{not_stuck_front, long_is_none}
