@@ -1,0 +1,15 @@
+pub mod PieceAdditions
+pub mod Gives
+pub mod RowSteps
+pub mod Beginnings
+pub mod GoodRounds
+pub mod Entering
+pub mod Progressing
+pub mod Submitting
+pub mod Working
+pub mod Deciding
+pub mod Publishing
+pub mod Running
+pub mod Differences
+pub mod Effects
+pub mod Tying

@@ -1,0 +1,6 @@
+pub mod State
+pub mod Iterations
+pub mod Machine
+pub mod Rules
+pub mod Laws
+pub mod Ties
