@@ -1,12 +1,17 @@
-// The answer of an engine, vertex by vertex.
-use bolt_base::Lanes;
+// The answer of an engine, vertex by vertex, and as a list.
+ghost use Rattle.std.specs.Prelude.{◌≡◌, IfOk};
+ghost use Rattle.run_model.specs.Rows.{answer};
+
+use bolt_base::{Answer, Lanes, Memory};
 use round_engine::Engine;
+use std::alloc::Global;
 use vertex_steps::ValueRow;
 
 /// The answer on an engine's graph.
 #[derive(Clone, Copy)]
-pub(crate) struct EngineAnswer<'a> {
-    pub(crate) engine: &'a Engine,
+pub struct EngineAnswer<'a> {
+    /// The engine.
+    pub engine: &'a Engine,
 }
 
 impl<'a> ValueRow for EngineAnswer<'a> {
@@ -22,4 +27,16 @@ impl<'a> ValueRow for EngineAnswer<'a> {
         }
         value
     }
+}
+
+/// The answer of an engine as a list, a value for each vertex.
+pub fn answer_of(alloc: Global, engine: &Engine) -> Result<Answer, Memory>
+    ensures { let e = engine.now in IfOk result (λ values. values ≡ answer e.program e.now) }
+{
+    let row = EngineAnswer { engine };
+    let mut values = Answer::new(alloc);
+    for v in 0..engine.vertices() {
+        values.push(row.value(v))?;
+    }
+    Ok(values)
 }

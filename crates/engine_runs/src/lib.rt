@@ -5,4 +5,6 @@ mod answers;
 mod making;
 mod progress;
 
+pub use answers::{EngineAnswer, answer_of};
+pub use making::prepare_batch;
 pub use progress::{OpenedRun, Progress, TooManyCells, open_run};

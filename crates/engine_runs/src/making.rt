@@ -52,6 +52,40 @@ fn prepare_edits<R: Threads + Sync, T: Gate + Sync>(
     }
 }
 
+/// Prepares a batch, or tells the line for which it is refused. A batch that is refused, and one
+/// for which memory is wanting, leave the engine as it was.
+pub fn prepare_batch<R: Threads + Sync, T: Gate + Sync>(
+    engine: &mut Engine,
+    rt: &R,
+    alloc: Global,
+    gate: &T,
+    batch: &BatchText,
+) -> Result<Result<Prepared, BadLine>, Memory>
+    requires ready { IsUnderWay engine.old }
+    requires paired { length batch.now.lines ≡ length batch.now.edits }
+    requires small { length batch.now.edits ≤ MOST_EDITS }
+    ensures state { IfOk result (λ r. OnOk r (engine.new
+        ≡ prepared_state engine.old batch.now.edits)) }
+    ensures edits { IfOk result (λ r. IfOk r (λ prepared. prepared.edits ≡ batch.now.edits)) }
+    ensures prepared { IfOk result (λ r. IfOk r (IsPreparedBy engine.new)) }
+    ensures fine { IfOk result (λ r. OnOk r (first_bad engine.old batch.now.edits ≡ None)) }
+    ensures accepted { IfOk result (λ r. OnOk r (judged engine.old batch.now ≡ None)) }
+    ensures refused { IfOk result (λ r. IfErr r (λ bad. judged engine.old batch.now ≡ Some bad)) }
+    ensures unchanged { IfOk result (λ r. OnErr r (engine.new ≡ engine.old)) }
+    ensures kept { OnErr result (engine.new ≡ engine.old) }
+{
+    match prepare_edits(engine, rt, alloc, gate, batch)? {
+        Ok(prepared) => match batch.bad {
+            None => Ok(Ok(prepared)),
+            Some(bad) => {
+                engine.abandon(prepared);
+                Ok(Err(bad))
+            }
+        },
+        Err(bad) => Ok(Err(bad)),
+    }
+}
+
 /// Makes a batch, or tells the line for which it is refused. A batch that is refused, and one for
 /// which memory is wanting, leave the engine as it was.
 pub(crate) fn make_batch<R: Threads + Sync, T: Gate + Sync>(
@@ -74,14 +108,8 @@ pub(crate) fn make_batch<R: Threads + Sync, T: Gate + Sync>(
     ensures unchanged { IfOk result (λ r. OnErr r (engine.new ≡ engine.old)) }
     ensures kept { OnErr result (engine.new ≡ engine.old) }
 {
-    match prepare_edits(engine, rt, alloc, gate, batch)? {
-        Ok(prepared) => match batch.bad {
-            None => Ok(Ok(engine.commit(prepared))),
-            Some(bad) => {
-                engine.abandon(prepared);
-                Ok(Err(bad))
-            }
-        },
+    match prepare_batch(engine, rt, alloc, gate, batch)? {
+        Ok(prepared) => Ok(Ok(engine.commit(prepared))),
         Err(bad) => Ok(Err(bad)),
     }
 }

@@ -13,6 +13,7 @@ ghost use Rattle.report_text.specs.Runs.{open_text as open_text_of};
 ghost use Rattle.report_text.specs.Values.{set_lines, value_lines};
 ghost use Rattle.run_model.specs.Rows.{answer};
 ghost use Rattle.run_model.specs.Visits.{opening_visits};
+ghost use Rattle.engine_runs.specs.State.{IsUnderWay, run_of};
 
 use crate::answers::EngineAnswer;
 use crate::making::make_batch;
@@ -96,6 +97,27 @@ fn refusal_text(alloc: Global, number: u64, bad: BadLine) -> Result<Bytes, Memor
 }
 
 impl Progress {
+    /// A run over an engine for which no batch is prepared, with what values are shown and how many
+    /// batches were refused.
+    pub fn new(engine: Engine, shows: bool, refused: u64) -> Progress
+        requires { IsUnderWay engine }
+        ensures { result ≡ run_of engine shows refused }
+    {
+        Progress {
+            engine,
+            shows,
+            refused,
+        }
+    }
+
+    /// The engine of the run. No batch is prepared.
+    pub fn into_engine(self) -> Engine
+        ensures ready { IsUnderWay result }
+        ensures run { self ≡ run_of result self.shows self.refused }
+    {
+        self.engine
+    }
+
     // The number of the next batch.
     fn next_number(&self) -> u64
         requires { next_number_of self.now < 2 ^ 64 }

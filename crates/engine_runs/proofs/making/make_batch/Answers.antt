@@ -1,14 +1,13 @@
 use Rattle.std.proofs.Common.{rules, ◌≡◌}
-use Rattle.bolt_base.specs.Edits.{after}
 use Rattle.round_engine.specs.Preparing.{prepared_state}
 use Rattle.engine_runs.specs.Making.{IsRound}
 use Rattle.engine_runs.proofs.Rounds.{round_is}
 use Rattle.engine_runs.proofs.making.make_batch.Goals as goal
 
-pub returns-in-None-clause-made : goal.returns-in-None-clause-made
-returns-in-None-clause-made g c =
+pub returns-in-Ok-clause-made : goal.returns-in-Ok-clause-made
+returns-in-Ok-clause-made g c =
     let s = c.args.engine.now in
-    let t = c.prepare_edits.new.engine in
+    let t = c.prepare_batch.new.engine in
     let edits = c.args.batch.now.edits in
     let is_t : t ≡ prepared_state s edits = search rules in
     let is_e : c.in-Ok.prepared.edits ≡ edits = search rules in

@@ -1,4 +1,4 @@
-use Rattle.std.proofs.Common.{◌≡◌, ◌∙◌, sym}
+use Rattle.std.proofs.Common.{◌∙◌, sym}
 use Rattle.run_model.proofs.RowLemmas.{values_whole}
 use Rattle.engine_runs.proofs.progress.push_shown.Goals as goal
 

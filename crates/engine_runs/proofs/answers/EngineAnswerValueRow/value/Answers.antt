@@ -1,5 +1,4 @@
 use Rattle.std.proofs.Common.{rules, ◌≡◌, ◌<◌, ◌+◌, ◌∙◌, ℕ, ℤ, FitsSigned, w64, sym, subst, length}
-use Rattle.std.proofs.Common.{arith}
 use Rattle.std.proofs.lemmas.Int.{to_z-of_z}
 use Rattle.bolt_base.specs.Graph.{vertices}
 use Rattle.refine_rows.proofs.ReadLemmas.{copied_list, value_long}

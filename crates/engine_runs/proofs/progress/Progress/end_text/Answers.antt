@@ -1,4 +1,4 @@
-use Rattle.std.proofs.Common.{rules, ◌≡◌, ◌∙◌, sym, length}
+use Rattle.std.proofs.Common.{rules, ◌≡◌, ◌∙◌, sym}
 use Rattle.run_model.proofs.RowLemmas.{values_whole}
 use Rattle.run_model.specs.Program.{lanes}
 use Rattle.engine_runs.proofs.progress.Progress.end_text.Goals as goal

@@ -1,0 +1,4 @@
+pub mod Counts
+pub mod LineSteps
+pub mod MadeSteps
+pub mod RepliedSteps

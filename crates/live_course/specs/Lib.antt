@@ -1,0 +1,4 @@
+pub mod Made
+pub mod Replied
+pub mod Lines
+pub mod Live
