@@ -1,13 +1,25 @@
-//! Examples of the command, and of the words of all commands: rows that show that the definitions
+//! Examples of the command: rows that show that the definitions
 //! say what is meant. They stand apart from the crates that they call, since a crate with tests is
 //! proved twice.
 #![tactic(auto)]
 
 #[cfg(test)]
-mod commands;
-#[cfg(test)]
 mod faults;
 #[cfg(test)]
-mod programs;
+mod file_rows;
 #[cfg(test)]
-mod words;
+mod gates;
+#[cfg(test)]
+mod large;
+#[cfg(test)]
+mod rank_rows;
+#[cfg(test)]
+mod refused;
+#[cfg(test)]
+mod replies;
+#[cfg(test)]
+mod rows;
+#[cfg(test)]
+mod small_rows;
+#[cfg(test)]
+mod worked;
