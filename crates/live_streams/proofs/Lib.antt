@@ -1,0 +1,4 @@
+pub mod BatchesAhead
+pub mod EndSteps
+pub mod FileLists
+pub mod QuestionEnds
