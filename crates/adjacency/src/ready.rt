@@ -62,13 +62,14 @@ pub fn plan_edits<R: Arcs + Drop>(
     };
     for index in 0..edits.len() {
         let edit = &edits[index];
-        if let Some(cause) = cause_of(&limits, &plan, edit) {
+        let ends = plan.ends(edit);
+        if let Some(cause) = cause_of(&limits, &plan, edit, &ends) {
             return Err(EditRefusal::At {
                 index: index as u32,
                 cause,
             });
         }
-        match plan.make(alloc, &limits, edit) {
+        match plan.make(alloc, &limits, edit, &ends) {
             Ok(()) => {}
             Err(_) => return Err(EditRefusal::Memory),
         }
