@@ -1,9 +1,13 @@
 -- What the old rows have, and what the rows have with puts laid over them.
-use Rattle.std.proofs.Common.{◌≡◌, ℕ, ℤ, pos, zero, suc, ◌+◌, ◌<◌, ◌≤◌, true, false}
+use Rattle.std.proofs.Common.{◌≡◌, ◌≢◌, ℕ, ℤ, pos, zero, suc, ◌+◌, ◌-◌, ◌<◌, ◌≤◌, true, false}
 use Rattle.std.proofs.Common.{◌||◌, cond, List, [], Option, Some, None, length, get_or, map}
-use Rattle.std.proofs.Common.{refl, sym, ap, ◌∙◌, arith}
+use Rattle.std.proofs.Common.{refl, sym, ap, ◌∙◌, arith, not, inl, inr}
 use Rattle.std.specs.Prelude.{IsSome}
+use Rattle.std.specs.Cmp.Lexicographic.{pointwise}
+use Rattle.std.specs.Cmp.Rules.{signed_items}
 use Rattle.std.specs.List.{range_with_len}
+use Rattle.std.specs.Ordering.{int_eq}
+use Rattle.std.proofs.lemmas.Bool.{cases_Bool}
 use Rattle.std.proofs.lemmas.List.FromFn.{get_or-map-range_with_len, length-map-range_with_len}
 use Rattle.std.proofs.lemmas.List.FromFn.{fill_by_all}
 use Rattle.std.proofs.lemmas.Slice.Zip.{length-zip}
@@ -95,6 +99,32 @@ pub copied_agg : (p : ProgramEntries) (g : Graph) (i v k : ℕ) (xs : List ℤ) 
     → IsSoFar (number (at (aggr p g i) v)) (lanes p) k xs → lanes p ≤ k → xs ≡ at (aggr p g i) v
 copied_agg p g i v k xs there so past =
     copied p k xs (at (aggr p g i) v) (agg_long p g i v there) so past
+
+-- ---- whether a value is another one
+module _ (p : ProgramEntries) (g h : Graph) (i v : ℕ) (there : v < vertices g) (here : v < vertices h)
+  where
+    abbrev value_was : List ℤ
+    value_was = at (row p g (i - 1)) v
+
+    abbrev value_now : List ℤ
+    value_now = at (row p h (i - 1)) v
+
+    -- where one number is another one
+    pub other_number : (k : ℕ) → number value_was k ≢ number value_now k
+        → value_changed (step p g h i) v ≡ true
+    other_number k apart = elim (cases_Bool (pointwise int_eq value_was value_now)) [
+      | inl same ↦ absurd (apart (ap (λ xs. number xs k)
+          ((signed_items value_was value_now).0 same)))
+      | inr other ↦ ap not other
+    ]
+
+    -- and where all numbers are the same it isn't
+    pub same_numbers : (k : ℕ) → lanes p ≤ k
+        → ((j : ℕ) → j < k → number value_now j ≡ number value_was j)
+        → value_changed (step p g h i) v ≡ false
+    same_numbers k past same = ap not ((signed_items value_was value_now).1
+        (sym (copied p k value_now value_was (value_long p g (i - 1) v there)
+        (record { long = value_long p h (i - 1) v here; below = same }) past)))
 
 -- ---- what is laid over
 -- a new vertex is evaluated again at each iteration

@@ -14,7 +14,6 @@ use crate::lists::attr_vertices;
 use crate::merging::merge;
 use crate::old_graph::OldGraph;
 use crate::reads::{reads_attr, reads_outdeg};
-use crate::values::{laid_value, old_value};
 use adjacency::{Adjacency, Change};
 use agg_history::{History, Overlay};
 use bolt_base::{Memory, Touched};
@@ -44,9 +43,15 @@ fn has_other_value<O: OldGraph, A: Adjacency>(
     if history.vertices() <= u {
         return false;
     }
-    let was = old_value::<O>(program, history, i - 1, u);
-    let now = laid_value::<O, A>(program, graph, history, overlay, i - 1, u);
-    !was.same(&now)
+    let lanes = program.entries().ranges.len() as u32;
+    for lane in 0..lanes {
+        let was = history.val(i - 1, u, lane);
+        let now = overlay.val(history, i - 1, u, lane);
+        if was != now {
+            return true;
+        }
+    }
+    false
 }
 
 /// The old vertices whose value at the iteration before `i` is another one than it was, rising.
@@ -67,8 +72,9 @@ pub fn changed_vertices<O: OldGraph, A: Adjacency>(
     ensures { IfOk result (λ us. us.items
         ≡ changed_values program.now O.graph (A.plain graph.now) i) }
 {
-    let mut us = Vec::new(alloc);
-    for &u in overlay.vertices_at(i - 1) {
+    let put = overlay.vertices_at(i - 1);
+    let mut us = Vec::with_capacity(alloc, put.len())?;
+    for &u in put {
         if has_other_value::<O, A>(program, graph, history, overlay, i, u) {
             us.push(u)?;
         }

@@ -10,7 +10,7 @@ use std::alloc::Global;
 pub fn attr_vertices(alloc: Global, change: &Change) -> Result<Vec<u32>, Memory>
     ensures { IfOk result (λ vs. vs.items ≡ map (λ a. a.vertex) change.now.attrs) }
 {
-    let mut vs = Vec::new(alloc);
+    let mut vs = Vec::with_capacity(alloc, change.attrs.len())?;
     for attr in change.attrs.as_slice() {
         vs.push(attr.vertex)?;
     }
@@ -22,7 +22,7 @@ pub fn new_vertices(alloc: Global, old: u32, new: u32) -> Result<Vec<u32>, Memor
     requires { old ≤ new }
     ensures { IfOk result (λ vs. vs.items ≡ range_with_len old (new - old)) }
 {
-    let mut vs = Vec::new(alloc);
+    let mut vs = Vec::with_capacity(alloc, (new - old) as usize)?;
     for v in old..new {
         vs.push(v)?;
     }

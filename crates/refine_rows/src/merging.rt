@@ -9,7 +9,7 @@ use std::alloc::Global;
 pub fn merge(alloc: Global, xs: &[u32], ys: &[u32]) -> Result<Vec<u32>, Memory>
     ensures all { IfOk result (λ all. AreMerged xs.now ys.now all.items) }
 {
-    let mut all = Vec::new(alloc);
+    let mut all = Vec::with_capacity(alloc, xs.len().saturating_add(ys.len()))?;
     let mut i = 0;
     let mut j = 0;
     while i < xs.len() && j < ys.len() {

@@ -10,8 +10,8 @@ use Rattle.refine_rows.proofs.dirty.changed_vertices.Goals as goal
 use Rattle.refine_rows.proofs.dirty.changed_vertices.Goals.{then-has_other_value+in_ok-push}
 use Rattle.refine_rows.proofs.dirty.changed_vertices.Goals.{else-has_other_value}
 
-pub vertices_at-u-items-requires : goal.vertices_at-u-items-requires
-vertices_at-u-items-requires g c =
+pub vertices_at-put-requires : goal.vertices_at-put-requires
+vertices_at-put-requires g c =
     let cuts = c.requires.refined.within.laid.belongs.cut in
     let low = c.requires.low in
     omega arith
@@ -23,8 +23,8 @@ has_other_value-requires g c =
     let now : Graph = g.A.Adjacency.plain c.args.graph.now in
     let within = c.requires.refined.within in
     let some = c.requires.some in
-    let is = c.vertices_at-u-items.ensures ∙ within.listed (c.args.i - 1) (omega arith) in
-    let there = again_there p was now (c.args.i - 1) c.vertices_at-u-items.result.now
+    let is = c.vertices_at-put.ensures ∙ within.listed (c.args.i - 1) (omega arith) in
+    let there = again_there p was now (c.args.i - 1) c.vertices_at-put.result.now
     c.loop-u.u-index
     is c.loop-u-test.true in
     record {
@@ -42,7 +42,7 @@ loop-u-preserved g c =
     let was : Graph = g.O.OldGraph.graph in
     let now : Graph = g.A.Adjacency.plain c.args.graph.now in
     let test = old_only was (value_changed (step p was now c.args.i)) in
-    let xs : List ℕ = c.vertices_at-u-items.result.now in
+    let xs : List ℕ = c.vertices_at-put.result.now in
     elim c.if-has_other_value.branch [
       | then-has_other_value+in_ok-push w ↦ rw w.us-is
           (picked_in (λ (u : ℕ). u) test xs c.loop-u.u-index 0
@@ -60,7 +60,7 @@ returns g c =
     let now : Graph = g.A.Adjacency.plain c.args.graph.now in
     let within = c.requires.refined.within in
     let some = c.requires.some in
-    let is = c.vertices_at-u-items.ensures ∙ within.listed (c.args.i - 1) (omega arith) in
-    changed_where p was now c.args.i c.vertices_at-u-items.result.now c.loop-u.us.items
+    let is = c.vertices_at-put.ensures ∙ within.listed (c.args.i - 1) (omega arith) in
+    changed_where p was now c.args.i c.vertices_at-put.result.now c.loop-u.us.items
     c.loop-u.u-index
     c.requires.over c.requires.some is c.loop-u-test.false c.loop-u.invariant

@@ -7,4 +7,4 @@ abbrev pub invariant-loop-u : goal.invariant-loop-u
 invariant-loop-u g l = l.us.items
     ≡ filter (old_only g.O.OldGraph.graph (value_changed
     (step l.program g.O.OldGraph.graph (g.A.Adjacency.plain l.graph) l.i)))
-    (map (λ (u : ℕ). u) (take l.u-index l.u-items))
+    (map (λ (u : ℕ). u) (take l.u-index l.put))
