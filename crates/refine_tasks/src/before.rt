@@ -8,21 +8,27 @@ ghost use Rattle.adjacency.specs.ChangeOf.{IsChange};
 ghost use Rattle.refine_rows.specs.Over.{AreOver};
 ghost use Rattle.refine_rows.specs.Progress.{IsRefinedTo};
 
-use crate::search::{attr_place, touched_place};
+use crate::search::{attr_place, touched_near};
 use adjacency::{Adjacency, Change};
 use agg_history::{History, Overlay};
 use bolt_base::Lanes;
 use refine_rows::{OldGraph, laid_value, old_value};
 use vertex_expr::Program;
 
-/// The out-degree before. Sources of changed edges are looked up, others have the same still.
-pub(crate) fn old_degree<O: OldGraph, A: Adjacency>(graph: &A, change: &Change, u: u32) -> u32
+/// The out-degree before. Sources of changed edges are looked up, first at `near`; others have the
+/// same still.
+pub(crate) fn old_degree<O: OldGraph, A: Adjacency>(
+    graph: &A,
+    change: &Change,
+    near: usize,
+    u: u32,
+) -> u32
     requires net { IsChange O.graph (A.plain graph.now) change.now }
     requires vertex { u < vertices (A.plain graph.now) }
     ensures { result ≡ outdeg O.graph u }
 {
     let touched = change.sources.as_slice();
-    match touched_place(touched, u) {
+    match touched_near(touched, near, u) {
         Ok(place) => touched[place].old_degree,
         Err(_) => graph.out_degree(u),
     }

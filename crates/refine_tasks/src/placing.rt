@@ -30,10 +30,10 @@ pub(crate) fn placed(alloc: Global, us: &[u32], edges: &[Edge]) -> Result<TaskEd
     ensures edges { IfOk result (λ xs. map (λ x. x.edge) xs ≡ edges.now) }
     ensures placed { IfOk result (λ xs. All (IsPlacedIn us.now) xs) }
 {
-    let mut tasks = Items::new(alloc);
+    let mut tasks = Vec::with_capacity(alloc, edges.len())?;
     for &edge in edges {
         let source = place_of(us, edge.src);
         tasks.push(TaskEdge { source, edge })?;
     }
-    Ok(tasks)
+    Ok(Items::from_vec(tasks))
 }

@@ -7,7 +7,7 @@ ghost use Rattle.refine_rows.specs.Progress.{IsRefinedTo};
 ghost use Rattle.refine_tasks.specs.Sides.{side_of};
 
 use crate::before::{old_attr, old_degree, value_before};
-use crate::search::vertex_place;
+use crate::search::{Hints, vertex_near};
 use adjacency::{Adjacency, Change};
 use agg_history::{History, Overlay};
 use bolt_base::{Items, Memory};
@@ -25,6 +25,7 @@ fn source_of<O: OldGraph, A: Adjacency>(
     overlay: &Overlay,
     i: u32,
     dirty_vertices: &[u32],
+    near: Hints,
     u: u32,
 ) -> Source
     requires change { IsChangeOver program.now O.graph (A.plain graph.now) change.now }
@@ -41,11 +42,11 @@ fn source_of<O: OldGraph, A: Adjacency>(
         vertex: u,
         old: value_before::<O, A>(program, graph, history, overlay, i, u),
         new: laid_value::<O, A>(program, graph, history, overlay, i - 1, u),
-        old_degree: old_degree::<O, A>(graph, change, u),
+        old_degree: old_degree::<O, A>(graph, change, near.touched, u),
         new_degree: graph.out_degree(u),
         old_attr: old_attr::<O, A>(graph, change, u),
         new_attr: graph.attr(u),
-        dirty: vertex_place(dirty_vertices, u).is_ok(),
+        dirty: vertex_near(dirty_vertices, near.dirty, u).is_ok(),
     }
 }
 
@@ -72,7 +73,12 @@ pub(crate) fn sources_of<O: OldGraph, A: Adjacency>(
     ensures { IfOk result (λ xs. xs
         ≡ map (side_of program.now (step program.now O.graph (A.plain graph.now) i)) us.now) }
 {
-    let mut sources = Items::new(alloc);
+    let mut sources = Vec::with_capacity(alloc, us.len())?;
+    let touched = change.sources.as_slice();
+    let mut near = Hints {
+        touched: 0,
+        dirty: 0,
+    };
     for &u in us {
         let source = source_of::<O, A>(
             program,
@@ -82,9 +88,11 @@ pub(crate) fn sources_of<O: OldGraph, A: Adjacency>(
             overlay,
             i,
             dirty_vertices,
+            near,
             u,
         );
+        near = near.past(touched, dirty_vertices, u);
         sources.push(source)?;
     }
-    Ok(sources)
+    Ok(Items::from_vec(sources))
 }

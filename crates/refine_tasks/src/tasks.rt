@@ -20,7 +20,7 @@ use vertex_expr::Program;
 fn touched_vertices(alloc: Global, touched: &[Touched]) -> Result<Vec<u32>, Memory>
     ensures { IfOk result (λ us. us.items ≡ map (λ t. t.vertex) touched.now) }
 {
-    let mut us = Vec::new(alloc);
+    let mut us = Vec::with_capacity(alloc, touched.len())?;
     for source in touched {
         us.push(source.vertex)?;
     }

@@ -6,6 +6,6 @@ use Rattle.refine_tasks.proofs.placing.placed.Given as goal
 
 abbrev pub invariant-loop-edge : goal.invariant-loop-edge
 invariant-loop-edge l = record {
-  edges : map (λ (x : TaskEdge). x.edge) l.tasks ≡ take l.edge-index l.edges;
-  placed : All (IsPlacedIn l.us) l.tasks;
+  edges : map (λ (x : TaskEdge). x.edge) l.tasks.items ≡ take l.edge-index l.edges;
+  placed : All (IsPlacedIn l.us) l.tasks.items;
 }

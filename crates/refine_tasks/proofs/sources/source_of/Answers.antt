@@ -34,8 +34,8 @@ returns g c =
     let old_attr : FitsSigned w64 c.old_attr.result = search rules in
     let new_attr : FitsSigned w64 c.attr.result = search rules in
     let flag = c.is_ok.ensures.value
-    ∙ dirty_flag p s c.args.dirty_vertices.now c.requires.sources c.args.u c.vertex_place.result
-    c.vertex_place.ensures.found c.vertex_place.ensures.absent in
+    ∙ dirty_flag p s c.args.dirty_vertices.now c.requires.sources c.args.u c.vertex_near.result
+    c.vertex_near.ensures.found c.vertex_near.ensures.absent in
     λ j. record {
       vertex = c.args.u;
       old = c.value_before.ensures j;
