@@ -44,7 +44,7 @@ pub(crate) fn sides_of(
 {
     let sources = tasks.sources.as_slice();
     let added = tasks.added.as_slice();
-    let mut sides = Vec::new(alloc);
+    let mut sides = Vec::with_capacity(alloc, sources.len())?;
     let mut next = 0;
     for k in 0..sources.len() {
         let source = sources[k];
@@ -79,7 +79,9 @@ pub(crate) fn works_of(alloc: Global, tasks: &Tasks) -> Result<Vec<Work>, Memory
     requires few { length tasks.now.sources < 2 ^ 32 }
     ensures works { IfOk result (λ all. all.items ≡ works tasks.now) }
 {
-    let mut all = Vec::new(alloc);
+    let edges = tasks.removed.len().saturating_add(tasks.added.len());
+    let room = edges.saturating_add(tasks.sources.len());
+    let mut all = Vec::with_capacity(alloc, room)?;
     for x in tasks.removed.as_slice() {
         all.push(Work::Removed(*x))?;
     }

@@ -17,7 +17,7 @@ use Rattle.edge_map.proofs.prepare.sides_of.Goals as goal
 
 pub loop-k-init : goal.loop-k-init
 loop-k-init c = (
-  ap length c.new-sides.ensures.items,
+  ap length c.in_ok-sides.ensures.items,
   λ k d h. absurd (omega arith),
   omega arith,
   from_zero c.as_slice-added.result.now,
