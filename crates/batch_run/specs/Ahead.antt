@@ -48,8 +48,8 @@ abbrev pub IsReadStop : {T : Type 0} → Result T Stop → Type 0
 IsReadStop r = IsErrOf r ShelfFailed ⊎ IsErrOf r TooLong
 
 -- where a feed stands when the reading of its stream stops: as many bytes were taken as are at most
--- and another read is needed, exactly where a file is too long; where the shelf failed it may and has
--- to take more
+-- and another read is needed, exactly where a file is too long; where the shelf failed it may and
+-- has to take more
 abbrev pub StandsAt : Feed → Stop → Type 0
 StandsAt feed ShelfFailed = (feed.taken < MOST_BYTES) × NeedsMore feed
 StandsAt feed SinkFailed = ⊥

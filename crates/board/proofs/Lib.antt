@@ -4,5 +4,4 @@ pub mod Going
 pub mod Flat
 pub mod Roomy
 pub mod PlacesAre
-pub mod Sums
 pub mod Keeping

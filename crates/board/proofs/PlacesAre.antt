@@ -1,6 +1,7 @@
 -- Places as flat numbers, and what a call reads of them and makes of them.
 use Rattle.std.proofs.Common.{◌≡◌, ℕ, ℤ, pos, ◌+◌, ◌*◌, ◌<◌, ◌≤◌, List, [], ◌++◌, length, get_or}
-use Rattle.std.proofs.Common.{take, drop, sym, ap, ◌∙◌, arith, length-append, length-take, length-drop}
+use Rattle.std.proofs.Common.{take, drop, sym, ap, ◌∙◌, arith, length-append, length-take}
+use Rattle.std.proofs.Common.{length-drop}
 use Rattle.std.proofs.Common.{suc, mul-le-mul_right, subst}
 use Rattle.bolt_base.proofs.ListLemmas.{suc_times}
 use Rattle.std.specs.List.{flat_map}

@@ -1,18 +1,13 @@
 -- What queries mean.
-use Rattle.std.specs.Prelude.{ℕ, ℤ, pos, ◌+ℤ◌, ◌<◌, int_le, List, Option, Some, None, fold, length}
-use Rattle.std.specs.Prelude.{slice_get}
+use Rattle.std.specs.Prelude.{ℕ, ℤ, ◌<◌, int_le, List, Option, Some, None, length, slice_get}
 use Rattle.std.specs.List.{count_by}
 use Rattle.run_model.specs.Program.{number}
-use Rattle.run_model.specs.Rows.{Lists}
+use Rattle.run_model.specs.Rows.{Lists, lane_total}
 use Rattle.board.specs.declared.query.Query.{Query}
 use Rattle.board.specs.declared.query.Query.TheVariants.{Value, Total, AtLeast, Prefix}
 use Rattle.board.specs.declared.query.Body.{Body}
 use Rattle.board.specs.declared.query.Body.TheVariants.{Value as Found, Total as Sum, Count}
 use Rattle.board.specs.declared.query.Body.TheVariants.{Prefix as Nothing, NoVertex}
-
--- the sum of a lane
-abbrev pub lane_total : ℕ → Lists → ℤ
-lane_total l values = fold (λ total xs. total +ℤ number xs l) (pos 0) values
 
 -- how many vertices have at least x in a lane
 abbrev pub at_least : ℕ → ℤ → Lists → ℕ

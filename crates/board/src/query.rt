@@ -1,6 +1,7 @@
 // Questions about an answer.
 ghost use Rattle.std.specs.Prelude.{◌≡◌, ◌<◌};
-ghost use Rattle.board.specs.Queries.{HasLane, at_least, lane_total, means};
+ghost use Rattle.run_model.specs.Rows.{lane_total};
+ghost use Rattle.board.specs.Queries.{HasLane, at_least, means};
 
 use crate::places::Places;
 use bolt_base::Lanes;
@@ -34,7 +35,7 @@ pub enum Body {
 }
 
 // The sum of a lane.
-#[tactic(auto, using(crate::proofs::Sums::sum_grows, crate::proofs::Sums::sum_fits))]
+#[tactic(auto, using(run_model::proofs::LaneSums::sum_grows, run_model::proofs::LaneSums::sum_fits))]
 fn total(places: &Places, lane: u32) -> i128
     requires { lane < places.now.width }
     ensures { result ≡ lane_total lane places.now.values }

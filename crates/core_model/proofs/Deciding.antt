@@ -66,7 +66,8 @@ module _ (p : ProgramEntries) (choice : Choice) (n : ℕ) (g h : Graph) where
 
   pub accepted_has_edits : (x : Option BadLine) (edits : List Edit) → x ≡ None
       → edits_if_accepted (Some (of x)) edits ≡ edits
-  accepted_has_edits x edits none = ap (λ (y : Option BadLine). edits_if_accepted (Some (of y)) edits)
+  accepted_has_edits x edits none = ap
+      (λ (y : Option BadLine). edits_if_accepted (Some (of y)) edits)
       none
 
 -- ---- the journal
@@ -112,7 +113,8 @@ module _ (c : Given) (s : State) (ruled : IsRuled c s) (r : Progress) (is : s.pr
         let old = ruled.entries in
         record {
           shape = shape_takes_outcome j.entries j.decided o e old.shape next_here next_round;
-          replays = replays_with_outcome c.program c.opened c.choice j.entries j.decided o e next_here late
+          replays = replays_with_outcome c.program c.opened c.choice j.entries j.decided o e
+              next_here late
               (inr outcome_due) old.replays;
           none_wanted = none_wanted_decided j.entries j.decided o e not_wanted old.none_wanted;
           origins = old.origins;
@@ -201,7 +203,8 @@ module _ (c : Given) (s : State) (ruled : IsRuled c s) (r : Progress) (is : s.pr
 
       one_more : accepted_count decided ≡ accepted_count j.entries + 1
       one_more =
-          let one = accepted_counts p c.choice n s.graph (after s.graph e.batch.edits) x going.fine in
+          let one = accepted_counts p c.choice n s.graph (after s.graph e.batch.edits) x
+          going.fine in
           let all = counted in
           omega arith
 
@@ -237,7 +240,8 @@ module _ (c : Given) (s : State) (ruled : IsRuled c s) (r : Progress) (is : s.pr
       next_is =
           let old : s.answer ≡ answer p (after c.opened (log_edits s.log)) =
           ruled.current.answer ∙ ap (answer p) (sym before_is) in
-          let new : answer_in c w ≡ answer p (after (after c.opened (log_edits s.log)) e.batch.edits)
+          let new : answer_in c w ≡ answer p
+          (after (after c.opened (log_edits s.log)) e.batch.edits)
           = answer_is ∙ ap (answer p) (going.graph
           ∙ ap (λ (g : Graph). after g e.batch.edits) (sym before_is)) in
           λ k. answer_changes (old k) (new k)

@@ -89,7 +89,8 @@ pub words_are_differences : (c : Given) → MayRun c → (s : State) → IsRuled
     → (r : Progress) (w : Work) → s.progress ≡ Some r → r.work ≡ Some w
     → is_sum c.program.combine ≡ true → w.iteration ≤ c.program.rounds
     → (v l : ℕ) → v < vertices w.graph → l < lanes c.program
-    → (word_in w.words (word c.program v l) + sum_at (word c.program v l) (all_left w.left)) % 2 ^ 64
+    → (word_in w.words (word c.program v l) + sum_at (word c.program v l) (all_left w.left)) % 2 ^
+    64
     ≡ residue (agg_at c.program w.graph w.iteration v l -ℤ cond (is_tail c w.iteration)
     (agg_at c.program w.graph (w.iteration - 1) v l)
     (old_agg c.program s.graph w.iteration v l))

@@ -18,7 +18,8 @@ use Rattle.board.specs.declared.query.Query.{Query}
 use Rattle.core_model.specs.Iterations.{settled}
 use Rattle.core_model.specs.Laws.{IsAnswered}
 use Rattle.core_model.specs.Machine.{accepted, add, add_first, add_in, batch_of, decide, decide_in}
-use Rattle.core_model.specs.Machine.{ended, may_settle, next_entry, outcome_now, publish, refused_on}
+use Rattle.core_model.specs.Machine.{ended, may_settle, next_entry, outcome_now, publish}
+use Rattle.core_model.specs.Machine.{refused_on}
 use Rattle.core_model.specs.Machine.{seen_by, settle, settle_in, step, submit, take_next, with_work}
 use Rattle.core_model.specs.Rules.{IsRuled, list_of}
 use Rattle.core_model.specs.State.{Given, Work, Progress, State}
@@ -31,8 +32,8 @@ use Rattle.core_model.specs.declared.step.Effect.TheVariants.{Nothing}
 use Rattle.core_model.proofs.Deciding.{never_wanted}
 
 -- ---- what every step does
--- a refused one changes nothing, no decision is that memory was wanting, and each desk has seen what
--- it had, or what is published
+-- a refused one changes nothing, no decision is that memory was wanting, and each desk has seen
+-- what it had, or what is published
 record IsFair (s : State) (r : State × Effect) : Type 0 where
   full : r.1 ≡ Full → r.0 ≡ s
   nothing : r.1 ≡ Nothing → r.0 ≡ s

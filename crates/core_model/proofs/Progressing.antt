@@ -16,7 +16,8 @@ none_is_alone (Some r) = tt
 module _ (c : Given) (s : State) (ruled : IsRuled c s) (r : Progress) (is : s.progress ≡ Some r)
   where
     pub progress_is : IsProgress c s.graph s.journal r
-    progress_is = subst (λ (q : Option Progress). IfProgress c s.graph s.journal q) is ruled.progress
+    progress_is = subst (λ (q : Option Progress). IfProgress c s.graph s.journal q) is
+        ruled.progress
 
     pub nothing_awaits : s.awaiting ≡ None
     nothing_awaits = none_awaits r s.awaiting

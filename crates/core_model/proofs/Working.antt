@@ -1,6 +1,7 @@
 -- Add and Settle keep the rules.
 use Rattle.std.proofs.Common.{◌≡◌, ℕ, ◌+◌, ◌-◌, ◌%◌, ◌^◌, ◌<◌, ◌≤◌, true, List, [], ◌∷◌, ◌++◌}
-use Rattle.std.proofs.Common.{length, leb, eqb, Option, Some, None, refl, sym, ap, ◌∙◌, subst, arith}
+use Rattle.std.proofs.Common.{length, leb, eqb, Option, Some, None, refl, sym, ap, ◌∙◌, subst}
+use Rattle.std.proofs.Common.{arith}
 use Rattle.std.proofs.Common.{inl, inr, set, length-set}
 use Rattle.std.specs.Prelude.{slice_get}
 use Rattle.std.specs.List.{All}

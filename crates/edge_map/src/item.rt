@@ -107,6 +107,7 @@ fn delta(plan: &Plan, place: u32) -> Lanes
 }
 
 // The new contribution of an edge of this weight out of a source less the old one.
+#[inline(never)]
 fn change(plan: &Plan, place: u32, weight: i64) -> Lanes
     requires ready { IsReady plan.now }
     requires place { place < length plan.now.tasks.now.sources }

@@ -102,7 +102,8 @@ pub all_written : (opening : List ℕ) (made : List MadeEntry) (desks : List Des
     → status ≡ (if r == 0 then 0 else 1)
     → (let x : Written = record { text = t5; status = status } in x)
     ≡ live_reply opening made desks width values
-all_written opening made desks width values t0 t1 t2 t3 t4 t5 status a r e0 e1 e2 e3 e4 e5 ea er es =
+all_written opening made desks width values t0 t1 t2 t3 t4 t5 status a r e0 e1 e2 e3 e4 e5 ea er
+    es =
     let entries = entry_lines 1 made in
     let replies = reply_lines 0 desks in
     let lasts = last_lines 0 desks in

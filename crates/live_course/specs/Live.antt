@@ -14,10 +14,11 @@ use Rattle.live_course.specs.Made.{IsMade, IsWhole, accepted}
 use Rattle.live_course.specs.Replied.{AllReplied, answer_after}
 use Rattle.live_course.specs.Lines.{live_reply}
 
--- Batches were made and desks replied. The batches of each stream were made in order, each once; what
--- became of each is what the accepted ones before it make of it; each desk replied to its questions,
--- never on an older prefix than before, and at last on all accepted ones. The text is that of what
--- was made, behind the opening of a run, and the status is 1 where a batch was refused, and else 0.
+-- Batches were made and desks replied. The batches of each stream were made in order, each once;
+-- what became of each is what the accepted ones before it make of it; each desk replied to its
+-- questions, never on an older prefix than before, and at last on all accepted ones. The text is
+-- that of what was made, behind the opening of a run, and the status is 1 where a batch was
+-- refused, and else 0.
 pub record LiveOk (p : ProgramEntries) (g : Graph) (c : Choice) (files : List (List BatchText))
     (questions : List (List Question)) (written : Reply) : Type 0 where
   pub made : List MadeEntry

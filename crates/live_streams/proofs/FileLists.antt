@@ -71,7 +71,8 @@ module _ {B : Type 0} (names : List (List ℕ)) (old : Option Told) (i k : ℕ) 
       ≡ whole_files (take (k + 1) names) c ++ whole_files (drop (k + 1) names) c =
       λ c. ap (map (λ (f : List ℕ). stream_file c f)) (sym (take-append-drop (k + 1) names))
       ∙ map-append (λ f. stream_file c f) (take (k + 1) names) (drop (k + 1) names) in
-      let h : Reads (whole_files names) (λ (x : A). ⊤) (k + 1 + (n - (k + 1))) (λ (x : A). n) old new
+      let h : Reads (whole_files names) (λ (x : A). ⊤) (k + 1 + (n - (k + 1))) (λ (x : A). n) old
+      new
       i m (let r : Result A Stop = Err e in r) =
       Reads-err (whole_files (take (k + 1) names)) (whole_files names) (λ _. ⊤) (λ _. ⊤) (k + 1)
       (n - (k + 1)) (λ _. k + 1) (λ _. k + 1) (λ _. n) old
@@ -165,7 +166,8 @@ module _ {A B : Type 0} (xs ys : List (List ℕ)) (old mid new : Option Told) (i
       (λ _. m + n) old new i k (told_all _ old (λ t. refl)) y z (both (Ok y) later) (λ d. d) refl
 
   -- the reading of the later ones stopped
-  pub second_stopped : {T : Type 0} (e : Stop) → Reads (whole_files ys) (λ _. ⊤) n (λ _. n) mid new j k
+  pub second_stopped : {T : Type 0} (e : Stop) → Reads (whole_files ys) (λ _. ⊤) n (λ _. n) mid new
+      j k
       (let r : Result B Stop = Err e in r)
       → Reads (λ c. whole_files xs c ++ whole_files ys c) (λ _. ⊤) (m + n) (λ _. m + n) old new i k
       (let r : Result T Stop = Err e in r)

@@ -7,8 +7,9 @@ use Rattle.command_files.specs.Reads.{TookTo}
 use Rattle.command_files.specs.declared.stop.Stop.{Stop}
 use Rattle.command_files.specs.declared.stop.Stop.TheVariants.{TooLong}
 
--- Bytes of a slot were taken, and nothing else changed on the shelf. With Ok all of a slot was taken
--- that has fewer bytes than are taken at most, and TooLong comes only where it has as many or more.
+-- Bytes of a slot were taken, and nothing else changed on the shelf. With Ok all of a slot was
+-- taken that has fewer bytes than are taken at most, and TooLong comes only where it has as many or
+-- more.
 pub record ReadsToEnd {T : Type 0} (old new : Option Told) (before after slot : ℕ)
     (r : Result T Stop) : Type 0 where
   pub took : TookTo (λ bytes. length bytes) old new slot

@@ -1,6 +1,7 @@
 -- The questions of lines, one line after another.
 use Rattle.std.proofs.Common.{◌≡◌, ℕ, ◌<◌, Bool, true, false, cond, List, [], ◌∷◌, ◌++◌, sym}
-use Rattle.std.proofs.Common.{ap, ◌∙◌, refl, subst, Option, Some, None, append_assoc, arith, ℤ, zero, suc}
+use Rattle.std.proofs.Common.{ap, ◌∙◌, refl, subst, Option, Some, None, append_assoc, arith, ℤ}
+use Rattle.std.proofs.Common.{zero, suc}
 use Rattle.std.proofs.lemmas.Bool.Decides.{nat_tests}
 use Rattle.std.proofs.lemmas.List.{append-nil}
 use Rattle.std.proofs.lemmas.List.Elements.{All-nil}

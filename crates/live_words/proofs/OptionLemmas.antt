@@ -10,7 +10,8 @@ use Rattle.live_words.specs.Options.{if_setting, option_taken, live_setting_of}
 use Rattle.live_words.specs.Ranges.{AreGivenInRange}
 use Rattle.live_words.specs.declared.options.LiveGiven.{LiveGiven}
 use Rattle.live_words.specs.declared.options.LiveSetting.{LiveSetting}
-use Rattle.live_words.specs.declared.options.LiveSetting.TheVariants.{Stream, Ask, Cut, Vertical, Workers}
+use Rattle.live_words.specs.declared.options.LiveSetting.TheVariants.{Stream, Ask, Cut, Vertical}
+use Rattle.live_words.specs.declared.options.LiveSetting.TheVariants.{Workers}
 
 abbrev pub has : {A : Type 0} → Option A → ℕ
 has None = 0

@@ -31,7 +31,8 @@ use Rattle.engine_runs.specs.Making.{committed}
 use Rattle.live_works.specs.Beside.{IsBeside, published}
 
 -- the changes that a prepared batch tells
-pub changes_told : (e s : EngineState) (edits : List Edit) (x : Prepared) → s ≡ prepared_state e edits
+pub changes_told : (e s : EngineState) (edits : List Edit) (x : Prepared) → s ≡ prepared_state e
+    edits
     → IsPreparedBy s x
     → x.changes ≡ answer_changes (answer e.program e.now) (answer e.program (after e.now edits))
 changes_told e s edits x is by =
@@ -75,7 +76,8 @@ module _ (o : Office) (e : EngineState) (r : Round) (beside : IsBeside o e)
   pub round_has_room : IsGood (within e.program.limits e.opened) e.now
       → first_bad e r.edits ≡ None → HasRoomFor o.origin o.room o.log r
   round_has_room good fine =
-      let next = (good_after (within e.program.limits e.opened) e.now r.edits good fine).few_vertices
+      let next = (good_after (within e.program.limits e.opened) e.now r.edits good
+      fine).few_vertices
       in
       let many = (values_whole p (after g r.edits) p.rounds).each_vertex in
       let long = ap length round_goes_on in
@@ -120,7 +122,8 @@ committed_becomes e t edits h x is_t is_h number more fewer all stay read =
     more ∙ (λ i. length (added (is_t i).now (to i))) in
     let r : x.removed ≡ length (removed e.now (after e.now edits)) =
     fewer ∙ (λ i. length (removed (is_t i).now (to i))) in
-    let m : x.edges ≡ length (edges (after e.now edits)) = all ∙ ap (λ (g : Graph). length (edges g)) to in
+    let m : x.edges ≡ length (edges (after e.now edits)) = all ∙ ap
+    (λ (g : Graph). length (edges g)) to in
     let k : x.kept ≡ kept e.choice.vertical e.program (after e.now edits) e.choice.cut =
     stay ∙ (λ i. kept (is_t i).choice.vertical (is_t i).program (to i) (is_t i).choice.cut) in
     let v : x.visits ≡ visits e.program e.now (after e.now edits) e.choice.cut =

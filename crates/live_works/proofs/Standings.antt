@@ -1,6 +1,7 @@
 -- The works after one more batch, and at the end.
 use Rattle.std.proofs.Common.{◌≡◌, ◌≢◌, ℕ, zero, suc, ◌+◌, ◌<◌, ◌≤◌, true, false}
-use Rattle.std.proofs.Common.{List, [], ◌∷◌, ◌++◌, length, map, set, get_or, refl, sym, ap, subst, ◌∙◌}
+use Rattle.std.proofs.Common.{List, [], ◌∷◌, ◌++◌, length, map, set, get_or, refl, sym, ap, subst}
+use Rattle.std.proofs.Common.{◌∙◌}
 use Rattle.std.proofs.Common.{arith, length-append, Some, None, ⊎_elim}
 use Rattle.std.specs.Prelude.{eqb, replicate, slice_index_or}
 use Rattle.std.specs.List.{flat_map, range_with_len}
@@ -74,18 +75,21 @@ module _ (o : Office) (s : Shop) (h : Standing o s) where
   stands_with_entry o' f e t origin free beside choice log =
       let sized = t.sized in
       let known = t.known in
-      let items : IsMade o.origin.program o.origin.graph s.engine.choice s.files (s.made ++ e ∷ []) =
+      let items : IsMade o.origin.program o.origin.graph s.engine.choice s.files
+      (s.made ++ e ∷ []) =
       made_snoc o.origin.program o.origin.graph s.engine.choice s.files s.made e h.items
       t.known (t.outcome ∙ becomes_after (batch_of s.files e)) in
       record {
         beside = beside;
         log = log
-            ∙ ap (λ (l : List (List Edit)). l ++ if_accepted e.outcome (batch_of s.files e).edits) h.log
+            ∙ ap (λ (l : List (List Edit)). l ++ if_accepted e.outcome (batch_of s.files e).edits)
+            h.log
             ∙ sym (accepted_snoc s.files s.made e);
         free = free;
         items = subst (λ (x : Origin). IsMade x.program x.graph f.choice s.files (s.made ++ e ∷ []))
             (sym origin)
-            (subst (λ (c : Choice). IsMade o.origin.program o.origin.graph c s.files (s.made ++ e ∷ []))
+            (subst (λ (c : Choice). IsMade o.origin.program o.origin.graph c s.files
+            (s.made ++ e ∷ []))
             (sym choice) items);
         turns = turns_snoc s.files s.next s.made e h.turns t.sized t.known t.number;
         within = λ stream lt.

@@ -14,8 +14,8 @@ use Rattle.board.specs.Post.{Office}
 use Rattle.engine_runs.specs.Making.{committed}
 
 -- the board began with the engine's program on the graph that the engine was opened with, it has
--- room for what that graph may grow to, its log is right, and the engine's graph is that graph after
--- the rounds of the log
+-- room for what that graph may grow to, its log is right, and the engine's graph is that graph
+-- after the rounds of the log
 pub record IsBeside (o : Office) (e : EngineState) : Type 0 where
   pub program : e.program ≡ o.origin.program
   pub opened : e.opened ≡ vertices o.origin.graph

@@ -74,8 +74,8 @@ fn enter_each<R: Wait>(
     Ok(())
 }
 
-/// Enters copies of a stream's batches in order, and then closes its origin. It tells whether memory
-/// was found.
+/// Enters copies of a stream's batches in order, and then closes its origin. It tells whether
+/// memory was found.
 pub fn submit<R: Wait, T: Gate>(
     rt: &R,
     alloc: Global,

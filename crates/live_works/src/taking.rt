@@ -32,8 +32,8 @@ pub(crate) fn take_next<R: Wait>(rt: &R, alloc: Global, door: &Door) -> Option<T
     unreachable!()
 }
 
-/// Decides a ticket if it is still the lowest undecided one and the round is the next one, and tells
-/// whether it did.
+/// Decides a ticket if it is still the lowest undecided one and the round is the next one, and
+/// tells whether it did.
 pub(crate) fn decide<R: Wait>(rt: &R, door: &Door, ticket: u64, outcome: Outcome) -> bool {
     let mut guard = door.lock(rt);
     let fits = guard.next_pending() == Some(ticket) && guard.accepts(&outcome);

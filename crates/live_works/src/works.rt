@@ -5,7 +5,8 @@ ghost use Rattle.std.specs.Prelude.{IsFalse, IsTrue, vec_capacity};
 ghost use Rattle.graph_text.specs.declared.batch_text.BatchText.{BatchText};
 ghost use Rattle.engine_runs.specs.State.{IsUnderWay};
 ghost use Rattle.live_course.specs.Made.{AreSound, file_of};
-ghost use Rattle.live_works.specs.Shop.{HasNext, IsFit, IsPending, Standing, made_of, new_shop, shop};
+ghost use Rattle.live_works.specs.Shop.{HasNext, IsFit, IsPending, Standing, made_of, new_shop};
+ghost use Rattle.live_works.specs.Shop.{shop};
 
 use crate::kept::{count, kept, same_batch};
 use crate::making::make_batch;
@@ -20,8 +21,8 @@ use std::marker::Model;
 use std::sync::Wait;
 use std::thread::Threads;
 
-/// An engine, the batches of the streams, how many of each were made, and the list of those. Contracts
-/// see all of them.
+/// An engine, the batches of the streams, how many of each were made, and the list of those.
+/// Contracts see all of them.
 #[derive(Drop)]
 pub struct Works<'a> {
     streams: &'a [Items<BatchText>],

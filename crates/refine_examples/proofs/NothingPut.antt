@@ -23,7 +23,8 @@ use Rattle.refine_rows.proofs.ReadLemmas.{entries_long, same_vertices}
 rows_full : (p : ProgramEntries) (h : Graph) (cut : ℕ) → AreFull (vertices h) (rows_to p h cut)
 rows_full p h cut k d small =
     let long = length-rows_to p h cut in
-    ap length (get_or-map-range_with_len (entries p h) 0 (cut + 1) k k d (omega arith) (omega arith))
+    ap length (get_or-map-range_with_len (entries p h) 0 (cut + 1) k k d (omega arith)
+    (omega arith))
     ∙ entries_long p h k
 
 module _ (p : ProgramEntries) (h : Graph) (history : HistoryState)

@@ -101,7 +101,8 @@ copied_agg p g i v k xs there so past =
     copied p k xs (at (aggr p g i) v) (agg_long p g i v there) so past
 
 -- ---- whether a value is another one
-module _ (p : ProgramEntries) (g h : Graph) (i v : ℕ) (there : v < vertices g) (here : v < vertices h)
+module _ (p : ProgramEntries) (g h : Graph) (i v : ℕ) (there : v < vertices g)
+    (here : v < vertices h)
   where
     abbrev value_was : List ℤ
     value_was = at (row p g (i - 1)) v

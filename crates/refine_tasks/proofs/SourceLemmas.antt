@@ -17,7 +17,8 @@ use Rattle.bolt_base.specs.declared.edge.AttrChange.{AttrChange}
 use Rattle.bolt_base.specs.declared.edge.Touched.{Touched}
 use Rattle.bolt_base.proofs.EdgeParts.{out_edges_stay}
 use Rattle.vertex_expr.specs.declared.program.ProgramEntries.{ProgramEntries}
-use Rattle.run_model.specs.Steps.{Step, dirty, is_dirty, value_changed, degree_changed, attr_changed}
+use Rattle.run_model.specs.Steps.{Step, dirty, is_dirty, value_changed, degree_changed}
+use Rattle.run_model.specs.Steps.{attr_changed}
 use Rattle.run_model.specs.Steps.{reads_attr, reads_outdeg}
 use Rattle.run_model.proofs.Still.{is_le, not_new}
 use Rattle.refine_rows.specs.Picked.{vertices_where}

@@ -1,5 +1,6 @@
 -- The tasks of an iteration, from its sources and the places of changed edges.
-use Rattle.std.proofs.Common.{◌≡◌, ℕ, zero, suc, ◌+◌, ◌<◌, ◌≤◌, Bool, true, false, not, ◌||◌, ◌&&◌, cond}
+use Rattle.std.proofs.Common.{◌≡◌, ℕ, zero, suc, ◌+◌, ◌<◌, ◌≤◌, Bool, true, false, not, ◌||◌, ◌&&◌}
+use Rattle.std.proofs.Common.{cond}
 use Rattle.std.proofs.Common.{List, [], ◌∷◌, length, get_or, map, filter, refl, sym, ap, ◌∙◌}
 use Rattle.std.proofs.Common.{subst, arith, eqb}
 use Rattle.std.specs.List.{All, AllByRecursion, Contains, list_any, range_with_len}
@@ -23,7 +24,8 @@ use Rattle.bolt_base.proofs.EdgeParts.{added-filter, removed-filter}
 use Rattle.bolt_base.proofs.SortedKeys.{ordered_sorted}
 use Rattle.vertex_expr.specs.declared.program.ProgramEntries.{ProgramEntries}
 use Rattle.run_model.specs.Rows.{at}
-use Rattle.run_model.specs.Steps.{Step, dirty, is_dirty, value_changed, degree_changed, attr_changed}
+use Rattle.run_model.specs.Steps.{Step, dirty, is_dirty, value_changed, degree_changed}
+use Rattle.run_model.specs.Steps.{attr_changed}
 use Rattle.run_model.specs.Steps.{reads_attr, reads_outdeg}
 use Rattle.run_model.specs.Visits.{changed}
 use Rattle.run_model.proofs.Still.{is_le, not_new}

@@ -1,10 +1,9 @@
 -- The lines of values that commands write.
-use Rattle.std.specs.Prelude.{ℕ, ℤ, pos, ◌+ℤ◌, List, ◌++◌, length, fold, codes}
+use Rattle.std.specs.Prelude.{ℕ, ℤ, List, ◌++◌, length, codes}
 use Rattle.std.specs.Fmt.{signed_decimal}
 use Rattle.std.specs.List.{range_with_len, flat_map}
 use Rattle.bolt_base.specs.declared.answer.AnswerChange.{AnswerChange}
-use Rattle.run_model.specs.Program.{number}
-use Rattle.run_model.specs.Rows.{Lists, at}
+use Rattle.run_model.specs.Rows.{Lists, at, lane_total}
 use Rattle.report_text.specs.Lines.{labelled}
 
 -- the lanes of a value in order, each behind a space
@@ -31,10 +30,6 @@ set_line change = vertex_line (codes "set ") change.vertex change.value
 
 abbrev pub set_lines : List AnswerChange → List ℕ
 set_lines changes = flat_map set_line changes
-
--- the sum of a lane over all vertices
-abbrev pub lane_total : ℕ → Lists → ℤ
-lane_total lane values = fold (λ total xs. total +ℤ number xs lane) (pos 0) values
 
 -- the sum of each lane, in order
 abbrev pub total_line : ℕ → ℤ → List ℕ

@@ -1,8 +1,8 @@
 // The lines of values.
 ghost use Rattle.std.specs.Prelude.{◌≡◌, ◌<◌, ◌++◌, length, All, OnOk};
+ghost use Rattle.run_model.specs.Rows.{lane_total};
 ghost use Rattle.report_text.specs.Values.{lane_word, lane_words, vertex_line};
-ghost use Rattle.report_text.specs.Values.{value_lines, set_lines, lane_total, total_line};
-ghost use Rattle.report_text.specs.Values.{total_lines};
+ghost use Rattle.report_text.specs.Values.{value_lines, set_lines, total_line, total_lines};
 
 use crate::lines::push_labelled;
 use bolt_base::{AnswerChange, Bytes, Lanes, Memory};
@@ -61,7 +61,7 @@ pub fn push_sets(out: &mut Bytes, changes: &[AnswerChange]) -> Result<(), Memory
 }
 
 // The sum of a lane.
-#[tactic(auto, using(crate::proofs::Sums::sum_grows, crate::proofs::Sums::sum_fits))]
+#[tactic(auto, using(run_model::proofs::LaneSums::sum_grows, run_model::proofs::LaneSums::sum_fits))]
 fn total<V: ValueRow>(row: &V, vertices: u32, lane: u32) -> i128
     requires vertices { vertices ≡ length (V.values row.now) }
     requires lane { All (λ xs. lane < length xs) (V.values row.now) }

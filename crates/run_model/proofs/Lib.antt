@@ -23,3 +23,4 @@ pub mod Known
 pub mod RefinedRows
 pub mod PullVisits
 pub mod GivenLemmas
+pub mod LaneSums

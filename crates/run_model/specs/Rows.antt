@@ -1,5 +1,5 @@
 -- The rows of a program on a graph, each computed anew from the row before.
-use Rattle.std.specs.Prelude.{ℕ, zero, suc, ℤ, pos, ◌+◌, List, [], map, fold, slice_index_or}
+use Rattle.std.specs.Prelude.{ℕ, zero, suc, ℤ, pos, ◌+◌, ◌+ℤ◌, List, [], map, fold, slice_index_or}
 use Rattle.std.specs.List.{range_with_len, zip}
 use Rattle.bolt_base.specs.Change.{attr_at}
 use Rattle.bolt_base.specs.Graph.{Graph, vertices, in_edges, outdeg}
@@ -19,6 +19,10 @@ Lists = List (List ℤ)
 
 abbrev pub at : Lists → ℕ → List ℤ
 at row v = slice_index_or row v []
+
+-- the sum of a lane over all vertices
+abbrev pub lane_total : ℕ → Lists → ℤ
+lane_total lane values = fold (λ total xs. total +ℤ number xs lane) (pos 0) values
 
 abbrev pub each_vertex : Graph → (ℕ → List ℤ) → Lists
 each_vertex g f = map f (range_with_len 0 (vertices g))

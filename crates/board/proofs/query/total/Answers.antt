@@ -1,7 +1,7 @@
 use Rattle.std.proofs.Common.{rules, ◌≡◌, ◌∙◌, ◌+◌, ◌<◌, ◌≤◌, ◌^◌, ℤ, FitsSigned, w64, sym, subst}
 use Rattle.std.proofs.Common.{length, get_or, []}
 use Rattle.run_model.specs.Program.{number}
-use Rattle.board.proofs.Sums.{IsSumOf, sum_grows, sum_is_exact, lane_total_grows}
+use Rattle.run_model.proofs.LaneSums.{IsSumOf, sum_grows, sum_is_exact, lane_total_grows}
 use Rattle.board.proofs.query.total.Goals as goal
 
 pub loop-vertex-preserved : goal.loop-vertex-preserved

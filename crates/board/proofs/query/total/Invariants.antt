@@ -1,6 +1,6 @@
 use Rattle.std.proofs.Common.{◌≡◌, take}
-use Rattle.board.specs.Queries.{lane_total}
-use Rattle.board.proofs.Sums.{IsSumOf}
+use Rattle.run_model.specs.Rows.{lane_total}
+use Rattle.run_model.proofs.LaneSums.{IsSumOf}
 use Rattle.board.proofs.query.total.Given as goal
 
 abbrev pub invariant-loop-vertex : goal.invariant-loop-vertex

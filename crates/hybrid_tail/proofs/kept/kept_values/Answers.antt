@@ -11,7 +11,8 @@ use Rattle.hybrid_tail.proofs.kept.kept_values.Goals as goal
 pub loop-v-preserved : goal.loop-v-preserved
 loop-v-preserved g c =
     table_more (at (row c.args.program.now (g.A.Adjacency.plain c.args.graph.now) c.args.i))
-    c.loop-v.v c.loop-v.vals.items c.push.new.self.items c.kept_value.result c.in_ok-push.ensures.items
+    c.loop-v.v c.loop-v.vals.items c.push.new.self.items c.kept_value.result
+    c.in_ok-push.ensures.items
     c.loop-v.invariant c.kept_value.ensures
 
 pub returns : goal.returns

@@ -21,7 +21,8 @@ returns-clause-reads g c =
     let no_more : e.reads.taken - 0 ≤ MOST_BYTES = omega arith in
     record {
       took = took_to_end before after c.args.slot (e.reads.taken - 0) e.reads.reads.takes no_more;
-      short = few_asked before c.args.slot e.reads.taken c.in_ok-read_questions.field-0 e.reads.as_far;
+      short = few_asked before c.args.slot e.reads.taken c.in_ok-read_questions.field-0
+          e.reads.as_far;
       end = e.end;
       too_long = λ wrong. cc;
       opened = e.reads.reads.slots;

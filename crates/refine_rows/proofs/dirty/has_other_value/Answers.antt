@@ -94,6 +94,7 @@ returns g c =
     let before = c.if-vertices-u.false in
     let there : u < vertices was = omega arith in
     let past = c.loop-lane-test.false in
-    sym (ap (λ b. not b && value_changed (step p was now c.args.i) u) (not_new (vertices was) u there)
+    sym (ap (λ b. not b && value_changed (step p was now c.args.i) u)
+    (not_new (vertices was) u there)
     ∙ same_numbers p was now c.args.i u there c.requires.vertex c.loop-lane.lane (omega arith)
     c.loop-lane.invariant)

@@ -20,7 +20,8 @@ returns-clause-conducts g c =
     (g.S.Shelf.opened c.args._shelf.now) (g.S.Shelf.faults c.args._shelf.now)
     (g.K.Sink.written c.args.out.now) (g.K.Sink.written c.put_reply.new.out)
     (g.K.Sink.faults c.args.out.now) (g.K.Sink.faults c.put_reply.new.out) c.in_ok-reply.reply
-    c.put_reply.result c.in_ok-reply.ensures.course c.put_reply.ensures.gives c.put_reply.ensures.writing
+    c.put_reply.result c.in_ok-reply.ensures.course c.put_reply.ensures.gives
+    c.put_reply.ensures.writing
     c.put_reply.ensures.cause
 
 pub returns-clause-decided : goal.returns-clause-decided

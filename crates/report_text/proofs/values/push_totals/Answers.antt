@@ -1,7 +1,8 @@
 use Rattle.std.proofs.Common.{rules, ◌∙◌, ◌++◌, ℤ, FitsSigned, ap}
 use Rattle.std.specs.Int.{w128}
 use Rattle.std.proofs.lemmas.Int.{to_z-of_z}
-use Rattle.report_text.specs.Values.{total_line, lane_total}
+use Rattle.run_model.specs.Rows.{lane_total}
+use Rattle.report_text.specs.Values.{total_line}
 use Rattle.report_text.proofs.Ranges.{text_more}
 use Rattle.report_text.proofs.values.push_totals.Goals as goal
 

@@ -1,6 +1,7 @@
 use Rattle.std.proofs.Common.{◌≡◌, ◌++◌}
 use Rattle.std.specs.List.{range_with_len, flat_map}
-use Rattle.report_text.specs.Values.{lane_total, total_line}
+use Rattle.run_model.specs.Rows.{lane_total}
+use Rattle.report_text.specs.Values.{total_line}
 use Rattle.report_text.proofs.values.push_totals.Given as goal
 
 abbrev pub invariant-loop-lane : goal.invariant-loop-lane

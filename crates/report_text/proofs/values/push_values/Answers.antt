@@ -6,7 +6,8 @@ use Rattle.report_text.proofs.values.push_values.Goals as goal
 
 pub loop-v-preserved : goal.loop-v-preserved
 loop-v-preserved g c =
-    text_more (value_line (g.V.ValueRow.values c.args.row.now)) c.loop-v.v c.args.out.now c.loop-v.out
+    text_more (value_line (g.V.ValueRow.values c.args.row.now)) c.loop-v.v c.args.out.now
+    c.loop-v.out
     c.push_vertex.new.out c.loop-v.invariant
     (c.in_ok-push_vertex.ensures
     ∙ ap (λ (xs : List ℤ). c.loop-v.out ++ vertex_line (codes "value ") c.loop-v.v xs)

@@ -5,4 +5,5 @@ use Rattle.report_text.proofs.values.push_values.Given as goal
 
 abbrev pub invariant-loop-v : goal.invariant-loop-v
 invariant-loop-v g l =
-    l.out ≡ l.initial.out ++ flat_map (value_line (g.V.ValueRow.values l.row)) (range_with_len 0 l.v)
+    l.out ≡ l.initial.out ++ flat_map (value_line (g.V.ValueRow.values l.row))
+    (range_with_len 0 l.v)

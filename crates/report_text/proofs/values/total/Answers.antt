@@ -1,7 +1,7 @@
 use Rattle.std.proofs.Common.{rules, ◌≡◌, ◌∙◌, ◌+◌, ◌<◌, ◌≤◌, ◌^◌, ℤ, FitsSigned, w64, sym, subst}
 use Rattle.std.proofs.Common.{length, get_or, [], List, ap}
 use Rattle.run_model.specs.Program.{number}
-use Rattle.report_text.proofs.Sums.{IsSumOf, sum_grows, sum_is_exact, lane_total_grows}
+use Rattle.run_model.proofs.LaneSums.{IsSumOf, sum_grows, sum_is_exact, lane_total_grows}
 use Rattle.report_text.proofs.values.total.Goals as goal
 
 pub loop-v-preserved : goal.loop-v-preserved

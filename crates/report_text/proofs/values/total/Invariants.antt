@@ -1,6 +1,6 @@
 use Rattle.std.proofs.Common.{◌≡◌, take}
-use Rattle.report_text.specs.Values.{lane_total}
-use Rattle.report_text.proofs.Sums.{IsSumOf}
+use Rattle.run_model.specs.Rows.{lane_total}
+use Rattle.run_model.proofs.LaneSums.{IsSumOf}
 use Rattle.report_text.proofs.values.total.Given as goal
 
 abbrev pub invariant-loop-v : goal.invariant-loop-v

@@ -1,4 +1,4 @@
--- Sums of numbers of 64 bits.
+-- Sums of numbers of 64 bits, and of a lane over the first vertices.
 use Rattle.std.proofs.Common.{◌≡◌, ℕ, ℤ, pos, negsuc, ◌+ℤ◌, ◌≤ℤ◌, ◌+◌, ◌*◌, ◌^◌, ◌<◌, ◌≤◌, arith}
 use Rattle.std.proofs.Common.{FitsSigned, w64, to_z, of_z, [], length, take, get_or, ap, sym}
 use Rattle.std.proofs.Common.{◌∙◌}
@@ -6,8 +6,7 @@ use Rattle.std.specs.Int.{w128}
 use Rattle.std.proofs.lemmas.Int.{ints, to_z-of_z}
 use Rattle.std.proofs.lemmas.List.Sums.{fold_more}
 use Rattle.run_model.specs.Program.{number}
-use Rattle.run_model.specs.Rows.{Lists}
-use Rattle.report_text.specs.Values.{lane_total}
+use Rattle.run_model.specs.Rows.{Lists, lane_total}
 
 -- what n numbers of 64 bits may come to
 pub record IsSumOf (n : ℕ) (s : ℤ) : Type 0 where
