@@ -27,7 +27,7 @@ use Rattle.batch_run.specs.Ahead.{IsReadStop, Streamed}
 use Rattle.batch_run.specs.Conducts.{World, Each, Begun, Conducts}
 
 -- a file gives 2^40 bytes without an end where its slot does
-long_stream : (name : List ℕ) (k : ℕ) (t : Told) → length t.slots ≡ k
+pub long_stream : (name : List ℕ) (k : ℕ) (t : Told) → length t.slots ≡ k
     → MOST_BYTES ≤ length (left (opened_at name t) k)
     → IsLong (content t) (stream_file (content t) name)
 long_stream name k t tells long =
@@ -41,7 +41,8 @@ long_stream name k t tells long =
       );
     }
 
-short_stream : (name : List ℕ) (k : ℕ) (t : Told) → length t.slots ≡ k
+-- and doesn't where its slot does not
+pub short_stream : (name : List ℕ) (k : ℕ) (t : Told) → length t.slots ≡ k
     → length (left (opened_at name t) k) < MOST_BYTES
     → ¬ IsLong (content t) (stream_file (content t) name)
 short_stream name k t tells short =

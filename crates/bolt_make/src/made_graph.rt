@@ -1,13 +1,11 @@
 // A graph of which pairs are joined and cut.
-ghost use Rattle.std.specs.Prelude.{◌≡◌, map as map_edges, pos, replicate, IfOk, OnOk};
-ghost use Rattle.std.specs.List.Sorted.{IsStrictlySortedBy};
-ghost use Rattle.bolt_base.specs.Graph.{edge, pair_cmp};
-ghost use Rattle.bolt_base.specs.Plain.{AreApart};
+ghost use Rattle.std.specs.Prelude.{◌≡◌, pos, replicate, IfOk, OnOk};
 ghost use Rattle.bolt_base.specs.Edits.{edited, has_edge as has_edge_of};
 ghost use Rattle.bolt_make.specs.Generator.{bare, added, with_pair, joined, turned};
 
 use crate::draws::Pair;
-use bolt_base::{AttrList, Edge, EdgeList, Edit, GraphData, Memory};
+use bolt_base::{AttrList, Edge, Edit, GraphData, Memory};
+use graph_text::edges_in;
 use std::alloc::Global;
 use std::collections::BTreeMap;
 use std::marker::Model;
@@ -33,24 +31,6 @@ impl Model for MadeGraph {
       attrs = replicate g.vertices (pos 0);
       weights = finite.from_entries g.weights.entries;
     } };
-}
-
-// The edges of a map, in its order.
-fn edges_in(alloc: Global, weights: &BTreeMap<(u32, u32), i64>) -> Result<EdgeList, Memory>
-    ensures edges { IfOk result (λ edges. map_edges edge weights.now.entries ≡ edges) }
-    ensures apart { IfOk result (λ edges. AreApart edges) }
-    ensures ordered { IsStrictlySortedBy pair_cmp (map_edges (λ e. e.0) weights.now.entries) }
-{
-    let mut edges = EdgeList::new(alloc);
-    let entries = weights.iter();
-    for ((src, dst), weight) in entries {
-        edges.push(Edge {
-            src: *src,
-            dst: *dst,
-            weight: *weight,
-        })?;
-    }
-    Ok(edges)
 }
 
 impl MadeGraph {

@@ -19,3 +19,4 @@ pub use batch_text::BatchText;
 pub use graph::{GraphRefusal, read_graph};
 pub use printing::{print_batch, print_graph};
 pub use text_lines::{FeedError, Line, LineFeed};
+pub use weight_map::edges_in;

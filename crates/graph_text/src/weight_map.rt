@@ -28,8 +28,9 @@ impl Model for WeightMap {
     ghost view = { λ m. finite.from_entries m.map.entries };
 }
 
-// The edges of a map, in its order.
-fn edges_in(alloc: Global, map: &BTreeMap<(u32, u32), i64>) -> Result<EdgeList, Memory>
+/// The edges of a map from source and destination to weight, in its order. An error is want of
+/// memory.
+pub fn edges_in(alloc: Global, map: &BTreeMap<(u32, u32), i64>) -> Result<EdgeList, Memory>
     ensures edges { IfOk result (λ edges. map_edges edge map.now.entries ≡ edges) }
     ensures apart { IfOk result (λ edges. AreApart edges) }
     ensures ordered { IsStrictlySortedBy pair_cmp (map_edges (λ e. e.0) map.now.entries) }

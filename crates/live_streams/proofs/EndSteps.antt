@@ -11,11 +11,12 @@ use Rattle.bolt_io.proofs.TakenLemmas.{slot_told}
 use Rattle.text_lines.specs.Feed.{Advances, readable}
 use Rattle.text_lines.proofs.FeedLemmas.{taken_all}
 use Rattle.batch_steps.specs.Files.{stream_file}
-use Rattle.command_files.specs.Files.{content, whole_file, IsLong, IsNear}
+use Rattle.command_files.specs.Files.{content, IsLong, IsNear}
 use Rattle.command_files.specs.Reads.{Reads, TookTo}
 use Rattle.command_files.specs.declared.stop.Stop.{Stop}
-use Rattle.command_files.proofs.FileSteps.{opened_bytes, opened_fact, opened_left, Reads-file}
+use Rattle.command_files.proofs.FileSteps.{opened_bytes, opened_fact, Reads-file}
 use Rattle.command_files.proofs.FileSteps.{read_to_end_near}
+use Rattle.batch_run.proofs.StreamSteps.{long_stream, short_stream}
 use Rattle.live_streams.specs.Ends.{ReadsToEnd}
 
 -- no more bytes were taken than may be
@@ -57,33 +58,6 @@ pub took_to_end : (a b : Option Told) (slot n : ℕ) → Advances a b slot n →
     → TookTo (λ (bytes : List ℕ). length bytes) a b slot
 took_to_end a b slot n moved most = (n, moved, near_end a slot n moved.within most)
 
--- it gives 2^40 bytes without an end exactly where its slot does
-long_bytes : (name : List ℕ) (k : ℕ) (t : Told) → length t.slots ≡ k
-    → MOST_BYTES ≤ length (left (opened_at name t) k)
-    → IsLong (content t) (stream_file (content t) name)
-long_bytes name k t tells long =
-    record {
-      to_end = refl;
-      long = omega (
-        arith,
-        length-take MOST_BYTES (whole_file t name),
-        ap length (opened_left t k name tells),
-        long,
-      );
-    }
-
-few_bytes : (name : List ℕ) (k : ℕ) (t : Told) → length t.slots ≡ k
-    → length (left (opened_at name t) k) < MOST_BYTES
-    → ¬ IsLong (content t) (stream_file (content t) name)
-few_bytes name k t tells short =
-    λ is. omega (
-      arith,
-      length-take MOST_BYTES (whole_file t name),
-      ap length (opened_left t k name tells),
-      short,
-      is.long,
-    )
-
 always : {T : Type 0} (r : Result T Stop) (P : Type 0) → OnOk r P → IfOk r (λ x. ⊤ → P)
 always (Ok x) P h = λ _. h
 always (Err e) P h = tt
@@ -99,7 +73,7 @@ module _ {T : Type 0} (name : List ℕ) (old mid new : Option Told) (i j k slot 
   not_long (Ok x) short =
       opened_fact (λ t. length (left t slot) < MOST_BYTES)
       (λ t. ¬ IsLong (content t) (stream_file (content t) name)) old mid slot name
-      (few_bytes name slot) tells_it opened short
+      (short_stream name slot) tells_it opened short
   not_long (Err e) short = tt
 
   -- a file was opened, and then its slot was read to its end
@@ -113,7 +87,7 @@ module _ {T : Type 0} (name : List ℕ) (old mid new : Option Told) (i j k slot 
       (always r (IfSome new (λ t. left t slot ≡ [])) reads.end)
       (λ is. opened_fact (λ t. MOST_BYTES ≤ length (left t slot))
       (λ t. IsLong (content t) (stream_file (content t) name)) old mid slot name
-      (long_bytes name slot) tells_it opened (reads.too_long is))
+      (long_stream name slot) tells_it opened (reads.too_long is))
       (not_long r reads.short)
 
   -- what its bytes say is what the bytes of the slot say
