@@ -1,197 +1,408 @@
-// Batches of edits on a graph of two vertices. What a batch makes is proved; these rows show that
-// the definitions say what is meant.
-ghost use Rattle.std.specs.Prelude.{◌≡◌, ◌<◌, ◌≤◌, ◌+◌, ◌^◌, ◌⊎◌, None, length, IfOk};
-ghost use Rattle.adjacency.specs.declared.change.TheConstants.{MOST_EDITS};
-
-use adjacency::{Adjacency, Change, EditRefusal, Graph, Metered, Near};
-use bolt_base::{
-    AttrChange, AttrList, Edge, EdgeList, Edit, GraphData, Limits, LineCause, Memory, Touched,
-    VisitMeter,
+// Bad batches, and the changes of good ones.
+use crate::cases::{
+    BadRow, MadeRow, NARROW, WIDE, add, attr, bad_rows, cut, edge, made_rows, source, turned,
 };
-use std::alloc::Global;
+use bolt_base::{Edit, LineCause};
 use std::test::Fail;
 
-const LIMITS: Limits = Limits {
-    vertices: 3,
-    degree: 2,
-    edges: 3,
-    weight_lo: -5,
-    weight_hi: 5,
-    attr_lo: 0,
-    attr_hi: 9,
-};
-
-fn edge(src: u32, dst: u32, weight: i64) -> Edge {
-    Edge { src, dst, weight }
-}
-
-fn add(src: u32, dst: u32, weight: i64) -> Edit {
-    Edit::Add(edge(src, dst, weight))
-}
-
-// Two vertices and no edges.
-fn two_vertices(alloc: Global) -> Result<Graph, Memory>
-    ensures before { IfOk result (λ graph. graph.before ≡ None) }
-    ensures version { IfOk result (λ graph. graph.version ≡ 0) }
-{
-    let mut attrs = AttrList::new(alloc);
-    attrs.push(1)?;
-    attrs.push(2)?;
-    let plain = GraphData::new(attrs, EdgeList::new(alloc));
-    Graph::new(alloc, &plain, &LIMITS)
-}
-
-// Whether a change is of these edges, sources and attributes.
-fn is_of(
-    change: &Change,
-    added: &[Edge],
-    removed: &[Edge],
-    sources: &[Touched],
-    attrs: &[AttrChange],
-) -> bool {
-    change.added.as_slice() == added
-        && change.removed.as_slice() == removed
-        && change.sources.as_slice() == sources
-        && change.attrs.as_slice() == attrs
-}
-
-// Edits of each kind, in order.
-fn first_batch() -> [Edit; 5] {
-    [
-        Edit::Attr { vertex: 2, attr: 7 },
-        add(0, 1, 4),
-        add(2, 1, -5),
-        Edit::Attr { vertex: 0, attr: 9 },
-        Edit::Cut { src: 0, dst: 1 },
-    ]
-}
-
-fn is_first_change(change: &Change) -> bool {
-    let sources = [Touched {
-        vertex: 2,
-        old_degree: 0,
-    }];
-    let attrs = [AttrChange {
-        vertex: 0,
-        old: 1,
-        new: 9,
-    }];
-    is_of(change, &[edge(2, 1, -5)], &[], &sources, &attrs) && change.old_vertices == 2
-}
-
-// The edge gets another weight, and the attribute its own.
-fn second_batch() -> [Edit; 4] {
-    [
-        Edit::Cut { src: 2, dst: 1 },
-        add(2, 1, 0),
-        Edit::Attr { vertex: 2, attr: 1 },
-        Edit::Attr { vertex: 2, attr: 7 },
-    ]
-}
-
-fn is_second_change(change: &Change) -> bool {
-    let sources = [Touched {
-        vertex: 2,
-        old_degree: 1,
-    }];
-    is_of(change, &[edge(2, 1, 0)], &[edge(2, 1, -5)], &sources, &[])
-}
+// Three vertices.
+const BARE: [Edit; 3] = [
+    Edit::Attr { vertex: 0, attr: 1 },
+    Edit::Attr { vertex: 1, attr: 2 },
+    Edit::Attr { vertex: 2, attr: 3 },
+];
 
 #[test]
-fn edits_of_each_kind(rt: HostRuntime) -> Result<(), Fail> {
-    let alloc = rt.alloc();
-    let mut graph = two_vertices(alloc)?;
-    let Ok(change) = graph.apply(alloc, &first_batch()) else {
-        return Ok(assert!(rt; false));
-    };
-    let is_right = is_first_change(&change);
-    graph.keep(change);
-    assert!(rt; is_right && graph.version() == 1 && graph.edges() == 1);
-    let Ok(change) = graph.apply(alloc, &second_batch()) else {
-        return Ok(assert!(rt; false));
-    };
-    let is_right = is_second_change(&change);
-    graph.revert(change);
-    assert!(rt; is_right && graph.version() == 1 && graph.edges() == 1);
-    Ok(())
-}
-
-// Whether the batch is refused at the edit, for the cause, and leaves nothing of it.
-fn is_refused(alloc: Global, edits: &[Edit], index: u32, cause: LineCause) -> Result<bool, Memory>
-    requires few { length edits.now ≤ MOST_EDITS }
-{
-    let mut graph = two_vertices(alloc)?;
-    match graph.apply(alloc, edits) {
-        Ok(change) => {
-            graph.revert(change);
-            Ok(false)
-        }
-        Err(refusal) => Ok(
-            refusal == EditRefusal::At { index, cause }
-                && graph.vertices() == 2
-                && graph.edges() == 0,
-        ),
-    }
-}
-
-#[test]
-fn bad_edits(rt: HostRuntime) -> Result<(), Fail> {
-    let third = Edit::Attr { vertex: 2, attr: 0 };
-    let cases = [
+fn bad_numbers(rt: HostRuntime) -> Result<(), Fail> {
+    let pair = [attr(0, 1), attr(1, 2), add(0, 1, 4)];
+    let rows: [BadRow; 14] = [
         (
-            [third, add(0, 0, 1), add(0, 1, 1), add(0, 2, 1)],
-            3,
-            LineCause::Degree,
+            "weight below",
+            &pair,
+            &[add(1, 0, -6)],
+            0,
+            LineCause::Weight,
         ),
         (
-            [third, add(0, 0, 1), add(1, 0, 1), add(2, 0, 1)],
-            3,
-            LineCause::Degree,
-        ),
-        (
-            [add(0, 0, 1), add(0, 1, 1), add(1, 0, 1), add(1, 1, 1)],
-            3,
-            LineCause::Edges,
-        ),
-        (
-            [add(0, 0, 1), add(0, 0, 6), add(3, 0, 1), third],
+            "weight above",
+            &pair,
+            &[add(1, 0, -5), add(1, 1, 6)],
             1,
             LineCause::Weight,
         ),
+        (
+            "least weight",
+            &pair,
+            &[add(1, 0, i64::MIN)],
+            0,
+            LineCause::Weight,
+        ),
+        (
+            "greatest weight",
+            &pair,
+            &[add(1, 0, i64::MAX)],
+            0,
+            LineCause::Weight,
+        ),
+        (
+            "attribute below",
+            &pair,
+            &[attr(0, -1)],
+            0,
+            LineCause::Attribute,
+        ),
+        (
+            "attribute above",
+            &pair,
+            &[attr(0, 9), attr(2, 10)],
+            1,
+            LineCause::Attribute,
+        ),
+        (
+            "least attribute",
+            &pair,
+            &[attr(0, i64::MIN)],
+            0,
+            LineCause::Attribute,
+        ),
+        ("no source", &pair, &[add(2, 0, 1)], 0, LineCause::Vertex),
+        (
+            "no destination",
+            &pair,
+            &[add(0, u32::MAX, 1)],
+            0,
+            LineCause::Vertex,
+        ),
+        (
+            "cut at no vertex",
+            &pair,
+            &[cut(0, 2)],
+            0,
+            LineCause::Vertex,
+        ),
+        (
+            "vertex too soon",
+            &pair,
+            &[attr(3, 0), attr(2, 0)],
+            0,
+            LineCause::Vertex,
+        ),
+        (
+            "last vertex number",
+            &pair,
+            &[attr(u32::MAX, 0)],
+            0,
+            LineCause::Vertex,
+        ),
+        (
+            "vertex past the room",
+            &pair,
+            &[attr(2, 0), attr(3, 0)],
+            1,
+            LineCause::Vertex,
+        ),
+        (
+            "first vertex too late",
+            &[],
+            &[attr(1, 0)],
+            0,
+            LineCause::Vertex,
+        ),
     ];
-    for (edits, index, cause) in cases {
-        assert!(rt; is_refused(rt.alloc(), &edits, index, cause)?, "at {index}");
-    }
+    assert_eq!(rt; bad_rows(rt.alloc(), NARROW, &rows)?, rows.len());
     Ok(())
 }
 
 #[test]
-fn reads_through_a_meter(rt: HostRuntime) -> Result<(), Fail> {
-    let alloc = rt.alloc();
-    let mut graph = two_vertices(alloc)?;
-    let Ok(change) = graph.apply(alloc, &[add(0, 0, 2)]) else {
-        return Ok(assert!(rt; false));
-    };
-    let mut meter = VisitMeter::new();
-    let first = read_in(&graph, &mut meter);
-    let found = Metered::find(&graph, 0, 0, &mut meter);
-    let visits = meter.finish();
-    graph.keep(change);
-    assert!(rt; first == Some(edge(0, 0, 2)) && found == first && visits == 3);
+fn bad_edges(rt: HostRuntime) -> Result<(), Fail> {
+    let pair = [attr(0, 1), attr(1, 2), add(0, 1, 4)];
+    let loops = [attr(0, 0), attr(1, 0), add(0, 0, 1), add(0, 1, 1)];
+    let full = [
+        attr(0, 0),
+        attr(1, 0),
+        add(0, 0, 1),
+        add(0, 1, 1),
+        add(1, 0, 1),
+    ];
+    let rows: [BadRow; 13] = [
+        (
+            "full out",
+            &BARE,
+            &[add(0, 0, 1), add(0, 1, 1), add(0, 2, 1)],
+            2,
+            LineCause::Degree,
+        ),
+        (
+            "full in",
+            &BARE,
+            &[add(0, 0, 1), add(1, 0, 1), add(2, 0, 1)],
+            2,
+            LineCause::Degree,
+        ),
+        (
+            "full before",
+            &loops,
+            &[attr(2, 0), add(0, 2, 1)],
+            1,
+            LineCause::Degree,
+        ),
+        (
+            "full edge list",
+            &full,
+            &[add(1, 1, 1)],
+            0,
+            LineCause::Edges,
+        ),
+        (
+            "full of new ones",
+            &pair,
+            &[add(0, 0, 1), add(1, 1, 1), add(1, 0, 1)],
+            2,
+            LineCause::Edges,
+        ),
+        ("present", &pair, &[add(0, 1, 4)], 0, LineCause::Present),
+        (
+            "present since",
+            &pair,
+            &[add(1, 1, 0), add(1, 1, 0)],
+            1,
+            LineCause::Present,
+        ),
+        ("absent", &pair, &[cut(1, 0)], 0, LineCause::Absent),
+        (
+            "absent since",
+            &pair,
+            &[cut(0, 1), cut(0, 1)],
+            1,
+            LineCause::Absent,
+        ),
+        (
+            "weight before present",
+            &pair,
+            &[add(0, 1, 6)],
+            0,
+            LineCause::Weight,
+        ),
+        (
+            "vertex before weight",
+            &pair,
+            &[add(0, 2, 6)],
+            0,
+            LineCause::Vertex,
+        ),
+        (
+            "present before degree",
+            &loops,
+            &[add(0, 1, 1)],
+            0,
+            LineCause::Present,
+        ),
+        (
+            "degree before edges",
+            &full,
+            &[attr(2, 0), add(0, 2, 1)],
+            1,
+            LineCause::Degree,
+        ),
+    ];
+    assert_eq!(rt; bad_rows(rt.alloc(), NARROW, &rows)?, rows.len());
     Ok(())
 }
 
-// The first edge into the first vertex, read twice, where both reads agree.
-fn read_in<A: Metered<VisitMeter>>(graph: &A, meter: &mut VisitMeter) -> Option<Edge>
-    requires { meter.old.0 + 2 < 2 ^ 64 }
-    ensures { (meter.new.0 ≡ meter.old.0) ⊎ (meter.new.0 ≡ meter.old.0 + 2) }
-{
-    if graph.vertices() > 0 && graph.in_degree(0) > 0 {
-        let mut near = Near::new();
-        let edge = graph.in_edge(0, 0, meter);
-        let again = graph.in_edge_near(0, 0, &mut near, meter);
-        if edge == again { Some(edge) } else { None }
-    } else {
-        None
-    }
+#[test]
+fn made_edges(rt: HostRuntime) -> Result<(), Fail> {
+    let pair = [attr(0, 1), attr(1, 2), add(0, 1, 4)];
+    let twice = [attr(0, 0), attr(1, 0), add(0, 0, 1), add(0, 1, 2)];
+    let low = [attr(0, 0), attr(1, 0), add(0, 1, i64::MIN)];
+    let rows: [MadeRow; 12] = [
+        ("empty", &pair, &[], &[], &[], &[], &[]),
+        (
+            "self loop",
+            &pair,
+            &[add(1, 1, 3)],
+            &[edge(1, 1, 3)],
+            &[],
+            &[source(1, 0)],
+            &[],
+        ),
+        (
+            "self loop cut",
+            &twice,
+            &[cut(0, 0)],
+            &[],
+            &[edge(0, 0, 1)],
+            &[source(0, 2)],
+            &[],
+        ),
+        (
+            "cut and back",
+            &pair,
+            &[cut(0, 1), add(0, 1, 4)],
+            &[],
+            &[],
+            &[],
+            &[],
+        ),
+        (
+            "added and cut",
+            &pair,
+            &[add(1, 0, 1), cut(1, 0)],
+            &[],
+            &[],
+            &[],
+            &[],
+        ),
+        (
+            "another weight",
+            &pair,
+            &[cut(0, 1), add(0, 1, -4)],
+            &[edge(0, 1, -4)],
+            &[edge(0, 1, 4)],
+            &[source(0, 1)],
+            &[],
+        ),
+        (
+            "another weight and back",
+            &pair,
+            &[cut(0, 1), add(0, 1, 0), cut(0, 1), add(0, 1, 4)],
+            &[],
+            &[],
+            &[],
+            &[],
+        ),
+        (
+            "another weight and cut",
+            &pair,
+            &[cut(0, 1), add(0, 1, 0), cut(0, 1)],
+            &[],
+            &[edge(0, 1, 4)],
+            &[source(0, 1)],
+            &[],
+        ),
+        (
+            "edges rise",
+            &twice,
+            &[add(1, 1, 7), add(1, 0, 8), cut(0, 1), cut(0, 0)],
+            &[edge(1, 0, 8), edge(1, 1, 7)],
+            &[edge(0, 0, 1), edge(0, 1, 2)],
+            &[source(0, 2), source(1, 0)],
+            &[],
+        ),
+        (
+            "least to greatest weight",
+            &low,
+            &[cut(0, 1), add(0, 1, i64::MAX)],
+            &[edge(0, 1, i64::MAX)],
+            &[edge(0, 1, i64::MIN)],
+            &[source(0, 1)],
+            &[],
+        ),
+        (
+            "least weight back",
+            &low,
+            &[cut(0, 1), add(0, 1, i64::MIN)],
+            &[],
+            &[],
+            &[],
+            &[],
+        ),
+        (
+            "both ends of the range",
+            &low,
+            &[add(1, 0, i64::MAX), add(1, 1, i64::MIN)],
+            &[edge(1, 0, i64::MAX), edge(1, 1, i64::MIN)],
+            &[],
+            &[source(1, 0)],
+            &[],
+        ),
+    ];
+    assert_eq!(rt; made_rows(rt.alloc(), WIDE, &rows)?, rows.len());
+    Ok(())
+}
+
+#[test]
+fn made_vertices(rt: HostRuntime) -> Result<(), Fail> {
+    let pair = [attr(0, 1), attr(1, 2), add(0, 1, 4)];
+    let rows: [MadeRow; 8] = [
+        (
+            "attribute",
+            &pair,
+            &[attr(1, 9)],
+            &[],
+            &[],
+            &[],
+            &[turned(1, 2, 9)],
+        ),
+        (
+            "attribute as it is",
+            &pair,
+            &[attr(1, 2)],
+            &[],
+            &[],
+            &[],
+            &[],
+        ),
+        (
+            "attribute and back",
+            &pair,
+            &[attr(1, 9), attr(1, 2)],
+            &[],
+            &[],
+            &[],
+            &[],
+        ),
+        (
+            "attributes rise",
+            &pair,
+            &[attr(1, i64::MAX), attr(0, 5), attr(0, i64::MIN)],
+            &[],
+            &[],
+            &[],
+            &[turned(0, 1, i64::MIN), turned(1, 2, i64::MAX)],
+        ),
+        (
+            "new vertex",
+            &pair,
+            &[attr(2, 3), attr(2, 8)],
+            &[],
+            &[],
+            &[],
+            &[],
+        ),
+        (
+            "first vertices",
+            &[],
+            &[attr(0, 3), attr(1, 8)],
+            &[],
+            &[],
+            &[],
+            &[],
+        ),
+        (
+            "new vertex at once",
+            &pair,
+            &[
+                attr(2, 7),
+                add(2, 2, 1),
+                add(0, 2, 1),
+                attr(0, 0),
+                add(2, 0, 5),
+            ],
+            &[edge(0, 2, 1), edge(2, 0, 5), edge(2, 2, 1)],
+            &[],
+            &[source(0, 1), source(2, 0)],
+            &[turned(0, 1, 0)],
+        ),
+        (
+            "new vertex left alone",
+            &pair,
+            &[attr(2, 7), add(2, 2, 1), cut(2, 2), cut(0, 1)],
+            &[],
+            &[edge(0, 1, 4)],
+            &[source(0, 1)],
+            &[],
+        ),
+    ];
+    assert_eq!(rt; made_rows(rt.alloc(), WIDE, &rows)?, rows.len());
+    Ok(())
 }

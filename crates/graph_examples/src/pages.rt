@@ -1,91 +1,118 @@
-// Pages that split, are taken back and are read.
-ghost use Rattle.std.specs.Prelude.{◌≡◌, ◌<◌, ◌≤◌, None, length, IfOk};
-ghost use Rattle.bolt_base.specs.Graph.{outdeg, indeg};
-ghost use Rattle.adjacency.specs.declared.change.TheConstants.{MOST_EDITS};
+// Pages that split, are taken back and are read, beside the graph by rows.
+ghost use Rattle.std.specs.Prelude.{◌<◌};
 
-use adj_pages::PagedGraph;
-use adjacency::{Adjacency, Metered, Near};
-use bolt_base::{AttrList, Edge, EdgeList, Edit, GraphData, Limits, Memory, VisitMeter};
-use std::alloc::Global;
+use crate::course::{Course, no_vertices};
+use crate::plain::Plain;
+use crate::reading::{found, out_edge};
+use adj_pages::{PagedGraph, PagedRow};
+use adjacency::{Adjacency, Arcs, MOST_EDITS, Near, Row, RowGraph};
+use bolt_base::{Edge, Edit, Limits, Memory};
+use std::alloc::{AllocError, Global};
 use std::test::Fail;
 
-const LIMITS: Limits = Limits {
-    vertices: 131,
-    degree: 131,
-    edges: 1000,
-    weight_lo: 0,
-    weight_hi: 1,
-    attr_lo: 0,
-    attr_hi: 0,
-};
-
-// No vertices.
-fn no_vertices(alloc: Global) -> Result<PagedGraph, Memory>
-    ensures { IfOk result (λ graph. graph.before ≡ None) }
-{
-    let plain = GraphData::new(AttrList::new(alloc), EdgeList::new(alloc));
-    PagedGraph::new(alloc, &plain, &LIMITS)
+// Edges between the first vertex and others, out of it or into it.
+#[derive(Clone, Copy)]
+struct Star {
+    rays: u32,
+    is_out: bool,
 }
 
-fn out_edge<A: Metered<VisitMeter>>(graph: &A, u: u32, k: u32, near: &mut Near) -> Edge
-    requires { k < outdeg (A.plain graph.now) u }
-{
-    let mut meter = VisitMeter::new();
-    let edge = graph.out_edge_near(u, k, near, &mut meter);
-    let _visits = meter.finish();
-    edge
-}
-
-fn in_edge<A: Metered<VisitMeter>>(graph: &A, v: u32, k: u32) -> Edge
-    requires { k < indeg (A.plain graph.now) v }
-{
-    let mut meter = VisitMeter::new();
-    let edge = graph.in_edge(v, k, &mut meter);
-    let _visits = meter.finish();
-    edge
-}
-
-fn found<A: Metered<VisitMeter>>(graph: &A, u: u32, v: u32) -> Option<Edge> {
-    let mut meter = VisitMeter::new();
-    let edge = graph.find(u, v, &mut meter);
-    let _visits = meter.finish();
-    edge
-}
-
-// Whether an edge out of the first vertex is found, and is the one edge into its end.
-fn is_read(pages: &PagedGraph, edge: Edge) -> bool {
-    found(pages, 0, edge.dst) == Some(edge)
-        && edge.dst < pages.vertices()
-        && pages.in_degree(edge.dst) == 1
-        && in_edge(pages, edge.dst, 0) == edge
-}
-
-// Whether the graph has so many edges, all out of the first vertex, which end at every step-th one.
-fn has_edges(pages: &PagedGraph, edges: u32, step: u32) -> bool
-    requires { 0 < step }
-{
-    if pages.vertices() == 0 || pages.edges() != edges || pages.out_degree(0) != edges {
-        return false;
-    }
-    let mut near = Near::new();
-    for k in 0..pages.out_degree(0) {
-        let edge = out_edge(pages, 0, k, &mut near);
-        if edge.dst / step != k + 1 || !is_read(pages, edge) {
-            return false;
+impl Star {
+    // The edge between the first vertex and another one.
+    fn edge(self, v: u32) -> Edge {
+        let (src, dst) = if self.is_out { (0, v) } else { (v, 0) };
+        Edge {
+            src,
+            dst,
+            weight: 1,
         }
     }
-    true
+
+    // Room for these edges.
+    fn limits(self) -> Limits {
+        Limits {
+            vertices: u32::MAX,
+            degree: self.rays,
+            edges: self.rays,
+            weight_lo: 0,
+            weight_hi: 1,
+            attr_lo: 0,
+            attr_hi: 0,
+        }
+    }
+
+    // All vertices.
+    fn vertices(self, alloc: Global) -> Result<Vec<Edit>, AllocError> {
+        let mut edits = Vec::new(alloc);
+        for vertex in 0..=self.rays {
+            edits.push(Edit::Attr { vertex, attr: 0 })?;
+        }
+        Ok(edits)
+    }
+
+    // All edges, the other ends falling.
+    fn falling(self, alloc: Global) -> Result<Vec<Edit>, AllocError> {
+        let mut edits = Vec::new(alloc);
+        for i in 0..self.rays {
+            edits.push(Edit::Add(self.edge(self.rays - i)))?;
+        }
+        Ok(edits)
+    }
+
+    // Cuts of the edges with odd other ends.
+    fn odd_cuts(self, alloc: Global) -> Result<Vec<Edit>, AllocError> {
+        let mut edits = Vec::new(alloc);
+        for v in 0..=self.rays {
+            if v % 2 == 1 {
+                let Edge { src, dst, .. } = self.edge(v);
+                edits.push(Edit::Cut { src, dst })?;
+            }
+        }
+        Ok(edits)
+    }
+
+    // Whether the vertices and edges are right, and the cuts when made, taken back and made again.
+    fn is_right<R: Arcs + Drop>(self, alloc: Global) -> Result<bool, Memory> {
+        let limits = self.limits();
+        let mut graph: RowGraph<R> = no_vertices(alloc, limits)?;
+        let mut plain = Plain::new(alloc);
+        for step in 0..4u32 {
+            let edits = match step {
+                0 => self.vertices(alloc)?,
+                1 => self.falling(alloc)?,
+                _ => self.odd_cuts(alloc)?,
+            };
+            let is_kept = step != 2;
+            let course = Course::new(alloc, &limits, &plain, &edits)?;
+            if course.bad.is_some() || !course.is_run(alloc, &mut graph, &edits, is_kept) {
+                return Ok(false);
+            }
+            if is_kept {
+                plain = course.after;
+            }
+        }
+        Ok(true)
+    }
+}
+
+#[test]
+fn pages_split_and_revert(rt: HostRuntime) -> Result<(), Fail> {
+    for is_out in [true, false] {
+        let star = Star { rays: 130, is_out };
+        assert!(rt; star.is_right::<Row>(rt.alloc())?, "rows, {is_out}");
+        assert!(rt; star.is_right::<PagedRow>(rt.alloc())?, "pages, {is_out}");
+    }
+    Ok(())
 }
 
 // Makes a batch, and keeps it or takes it back.
-fn make(alloc: Global, pages: &mut PagedGraph, edits: &[Edit], is_kept: bool) -> bool
-    requires idle { pages.old.before ≡ None }
-    requires few { length edits.now ≤ MOST_EDITS }
-    ensures { pages.new.before ≡ None }
-{
+fn make(alloc: Global, pages: &mut PagedGraph, edits: &[Edit], is_kept: bool) -> bool {
+    if pages.is_changed() || edits.len() > MOST_EDITS {
+        return false;
+    }
     match pages.apply(alloc, edits) {
         Ok(change) => {
-            if is_kept && pages.version() < 1000 {
+            if is_kept && pages.version() < u64::MAX {
                 pages.keep(change);
             } else {
                 pages.revert(change);
@@ -96,53 +123,42 @@ fn make(alloc: Global, pages: &mut PagedGraph, edits: &[Edit], is_kept: bool) ->
     }
 }
 
-// All vertices.
-fn all_vertices() -> [Edit; 131] {
-    let mut edits = [Edit::Attr { vertex: 0, attr: 0 }; 131];
-    for i in 0..131usize {
-        edits[i] = Edit::Attr {
-            vertex: i as u32,
-            attr: 0,
-        };
+// Whether the first vertex has so many edges, which end at every step-th one, and each is found.
+fn has_rays(pages: &PagedGraph, rays: u32, step: u32) -> bool
+    requires { 0 < step }
+{
+    if pages.vertices() == 0 || pages.edges() != rays || pages.out_degree(0) != rays {
+        return false;
     }
-    edits
+    let mut near = Near::new();
+    for k in 0..pages.out_degree(0) {
+        match out_edge(pages, 0, k, &mut near) {
+            Some(edge) => {
+                if edge.dst / step != k + 1 || found(pages, 0, edge.dst) != Some(edge) {
+                    return false;
+                }
+            }
+            None => return false,
+        }
+    }
+    true
 }
 
-// Edges out of the first vertex, the destinations falling.
-fn falling() -> [Edit; 130] {
-    let mut edits = [Edit::Cut { src: 0, dst: 0 }; 130];
-    for i in 0..130usize {
-        edits[i] = Edit::Add(Edge {
-            src: 0,
-            dst: 130 - i as u32,
-            weight: 1,
-        });
-    }
-    edits
-}
-
-// Those with odd destinations are cut.
-fn odd_cuts() -> [Edit; 65] {
-    let mut edits = [Edit::Cut { src: 0, dst: 0 }; 65];
-    for i in 0..65usize {
-        edits[i] = Edit::Cut {
-            src: 0,
-            dst: 1 + 2 * i as u32,
-        };
-    }
-    edits
-}
-
+// The star has more pages than one list of pages holds.
 #[test]
-fn pages_split_and_revert(rt: HostRuntime) -> Result<(), Fail> {
+fn lists_of_pages_split_and_revert(rt: HostRuntime) -> Result<(), Fail> {
     let alloc = rt.alloc();
-    let mut pages = no_vertices(alloc)?;
-    assert!(rt; make(alloc, &mut pages, &all_vertices(), true));
-    assert!(rt; make(alloc, &mut pages, &falling(), true));
-    assert!(rt; has_edges(&pages, 130, 1));
-    assert!(rt; make(alloc, &mut pages, &odd_cuts(), false));
-    assert!(rt; has_edges(&pages, 130, 1));
-    assert!(rt; make(alloc, &mut pages, &odd_cuts(), true));
-    assert!(rt; has_edges(&pages, 65, 2));
+    let star = Star {
+        rays: 7000,
+        is_out: true,
+    };
+    let mut pages: PagedGraph = no_vertices(alloc, star.limits())?;
+    assert!(rt; make(alloc, &mut pages, &star.vertices(alloc)?, true));
+    assert!(rt; make(alloc, &mut pages, &star.falling(alloc)?, true));
+    assert!(rt; has_rays(&pages, 7000, 1));
+    assert!(rt; make(alloc, &mut pages, &star.odd_cuts(alloc)?, false));
+    assert!(rt; has_rays(&pages, 7000, 1));
+    assert!(rt; make(alloc, &mut pages, &star.odd_cuts(alloc)?, true));
+    assert!(rt; has_rays(&pages, 3500, 2));
     Ok(())
 }
