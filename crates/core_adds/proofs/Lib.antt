@@ -1,0 +1,5 @@
+pub mod ListSteps
+pub mod OutEdges
+pub mod EdgeGifts
+pub mod ItemAdds
+pub mod PieceAdds

@@ -1,0 +1,29 @@
+use Rattle.std.proofs.Common.{◌∙◌, sym, ap}
+use Rattle.std.specs.List.{list_any}
+use Rattle.std.proofs.lemmas.List.{take_all}
+use Rattle.std.proofs.lemmas.List.Folds.{list_any_at}
+use Rattle.vertex_expr.specs.Mentions.{mentions_attr}
+use Rattle.vertex_expr.specs.Node.{tree_of}
+use Rattle.vertex_expr.specs.declared.program.ProgramEntries.{ProgramEntries}
+use Rattle.edge_map.proofs.Sources.{any-map}
+use Rattle.core_adds.proofs.dirty.reads_attr.Goals as goal
+
+pub returns-then-mentions_attr : goal.returns-then-mentions_attr
+returns-then-mentions_attr c =
+    let xs = c.as_slice-expr-items.result.now in
+    let here = c.if-mentions_attr.ensures.answer
+    ∙ ap (λ e. mentions_attr (tree_of e)) c.expr-item.is in
+    let there = list_any_at (λ e. mentions_attr (tree_of e)) xs c.loop-expr.expr-index
+    c.expr-item.result c.loop-expr-test.true (sym here) in
+    sym there ∙ sym (any-map mentions_attr tree_of xs)
+    ∙ ap (list_any mentions_attr) c.as_slice-expr-items.ensures.trees
+    ∙ ap (λ (x : ProgramEntries). list_any mentions_attr x.contribute) c.entries.ensures.entries
+
+pub returns : goal.returns
+returns c =
+    let xs = c.as_slice-expr-items.result.now in
+    sym c.loop-expr.invariant ∙ ap (list_any (λ e. mentions_attr (tree_of e)))
+    (take_all c.loop-expr.expr-index xs c.loop-expr-test.false)
+    ∙ sym (any-map mentions_attr tree_of xs)
+    ∙ ap (list_any mentions_attr) c.as_slice-expr-items.ensures.trees
+    ∙ ap (λ (x : ProgramEntries). list_any mentions_attr x.contribute) c.entries.ensures.entries

@@ -1,0 +1,3 @@
+pub mod Coded
+pub mod Differences
+pub mod Sides
