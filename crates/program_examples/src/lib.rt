@@ -6,6 +6,8 @@
 #[cfg(test)]
 mod boards;
 #[cfg(test)]
+mod desks;
+#[cfg(test)]
 mod ranges;
 #[cfg(test)]
 mod rank;
