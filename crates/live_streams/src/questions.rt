@@ -71,6 +71,7 @@ pub fn read_question_files<S: Shelf>(
     ensures questions { IfOk result (λ all. IfSome (S.told shelf.old)
         (λ t. all ≡ questions_of lanes (map (λ n. n.now) names.now) (content t))) }
     ensures lanes { IfOk result (All (AreWithin lanes)) }
+    ensures count { IfOk result (λ all. length all ≡ length names.now) }
     ensures reads { Reads (whole_files (map (λ n. n.now) names.now)) (λ _. ⊤) (length names.now)
         (λ _. length names.now) (S.told shelf.old) (S.told shelf.new)
         (S.opened shelf.old) (S.opened shelf.new) result }

@@ -100,6 +100,7 @@ pub fn read_stream_files<S: Shelf>(
     ensures batches { IfOk result (λ all. IfSome (S.told shelf.old)
         (λ t. all ≡ streams_of (map (λ n. n.now) names.now) (content t))) }
     ensures sound { IfOk result AreSound }
+    ensures count { IfOk result (λ all. length all ≡ length names.now) }
     ensures reads { Reads (whole_files (map (λ n. n.now) names.now)) (λ _. ⊤) (length names.now)
         (λ _. length names.now) (S.told shelf.old) (S.told shelf.new)
         (S.opened shelf.old) (S.opened shelf.new) result }

@@ -37,6 +37,8 @@ pub fn read_live_texts<S: Shelf>(
         (λ t. texts.questions ≡ questions_of lanes (map (λ n. n.now) asks.now) (content t))) }
     ensures sound { IfOk result (λ texts. AreSound texts.streams) }
     ensures lanes { IfOk result (λ texts. All (AreWithin lanes) texts.questions) }
+    ensures count { IfOk result (λ texts. length texts.streams ≡ length streams.now) }
+    ensures asked { IfOk result (λ texts. length texts.questions ≡ length asks.now) }
     ensures reads { Reads (λ c. whole_files (map (λ n. n.now) streams.now) c
         ++ whole_files (map (λ n. n.now) asks.now) c) (λ _. ⊤)
         (length streams.now + length asks.now) (λ _. length streams.now + length asks.now)

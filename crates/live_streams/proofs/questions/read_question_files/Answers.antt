@@ -1,4 +1,5 @@
-use Rattle.std.proofs.Common.{◌≡◌, ◌∙◌, ◌<◌, ◌∷◌, [], List, ℕ, length, map, sym, subst, arith}
+use Rattle.std.proofs.Common.{◌≡◌, ◌∙◌, ◌<◌, ◌+◌, ◌∷◌, [], List, ℕ, length, map, sym, ap}
+use Rattle.std.proofs.Common.{subst, arith, length-append}
 use Rattle.std.proofs.lemmas.List.{get_or-map, length-map}
 use Rattle.std.proofs.lemmas.List.Elements.{All-append, All-cons, All-nil}
 use Rattle.std.proofs.lemmas.Result.{err_from_is_err_and}
@@ -64,6 +65,8 @@ loop-name-preserved g c =
           c.loop-name.invariant.within
           (All-cons (AreWithin c.args.lanes) c.in_ok-questions.questions []
           c.in_ok-questions.ensures.lanes (All-nil (AreWithin c.args.lanes))));
+      count = ap length c.in_ok-push.ensures.ok ∙ length-append c.loop-name.all _
+          ∙ ap (λ n. n + 1) c.loop-name.invariant.count;
       reads =
           one_more names (g.S.Shelf.told c.args.shelf.now) (g.S.Shelf.opened c.args.shelf.now)
           c.loop-name.name-index _ below

@@ -1,4 +1,5 @@
-use Rattle.std.proofs.Common.{◌≡◌, ◌∙◌, ◌<◌, ◌∷◌, [], List, ℕ, length, map, sym, subst, arith}
+use Rattle.std.proofs.Common.{◌≡◌, ◌∙◌, ◌<◌, ◌+◌, ◌∷◌, [], List, ℕ, length, map, sym, ap}
+use Rattle.std.proofs.Common.{subst, arith, length-append}
 use Rattle.std.proofs.lemmas.List.{get_or-map, length-map}
 use Rattle.std.proofs.lemmas.List.Elements.{All-append, All-cons, All-nil}
 use Rattle.std.proofs.lemmas.Result.{err_from_is_err_and}
@@ -65,6 +66,8 @@ loop-name-preserved g c =
           c.loop-name.invariant.sound
           (All-cons (All IsSound) c.in_ok-batches.batches [] c.in_ok-batches.ensures.sound
           (All-nil (All IsSound))));
+      count = ap length c.in_ok-push.ensures.ok ∙ length-append c.loop-name.all _
+          ∙ ap (λ n. n + 1) c.loop-name.invariant.count;
       reads =
           one_more names (g.S.Shelf.told c.args.shelf.now) (g.S.Shelf.opened c.args.shelf.now)
           c.loop-name.name-index _ below

@@ -1,0 +1,4 @@
+mod NameSteps
+mod EngineSteps
+mod ReadSteps
+mod TextSteps
