@@ -1,0 +1,3 @@
+pub mod Lived
+pub mod Opened
+pub mod Turns
