@@ -5,6 +5,7 @@ ghost use Rattle.std.specs.String.{string_bytes};
 use crate::advice::{of_program, of_words};
 use crate::usage::reason;
 use cli_words::read_words;
+use live_words::{is_live, read_live};
 use program_files::judge;
 use std::alloc::{AllocError, Global};
 use std::fs::File;
@@ -18,7 +19,7 @@ const MOST_TEXT: u64 = 65_536;
 // The name of the file with a command's program, if one is named.
 fn program_file(words: &[String]) -> Option<&str> {
     match words.first()?.as_str() {
-        "run" | "once" | "check" => words.get(1)?.as_str().strip_prefix("file:"),
+        "run" | "live" | "once" | "check" => words.get(1)?.as_str().strip_prefix("file:"),
         _ => None,
     }
 }
@@ -26,7 +27,7 @@ fn program_file(words: &[String]) -> Option<&str> {
 // The name of a command's graph.
 fn graph_file(words: &[String]) -> Option<&str> {
     match words.first()?.as_str() {
-        "run" | "once" => Some(words.get(2)?.as_str()),
+        "run" | "live" | "once" => Some(words.get(2)?.as_str()),
         _ => None,
     }
 }
@@ -54,20 +55,48 @@ fn failure<R: Files>(rt: &R, name: &str) -> Option<io::Error> {
     }
 }
 
-// Which of a command's files can't be read, and why.
-fn of_files<R: Files + AllocGlobal>(rt: &R, words: &[String]) -> Result<String, AllocError> {
-    let alloc = rt.alloc();
+// The first of the files behind an option that can't be read, and why.
+fn option_failure<'a, R: Files>(
+    rt: &R,
+    words: &'a [String],
+    option: &str,
+) -> Option<(&'a str, io::Error)> {
+    for word in words {
+        if let Some(name) = word.as_str().strip_prefix(option)
+            && let Some(error) = failure(rt, name)
+        {
+            return Some((name, error));
+        }
+    }
+    None
+}
+
+// The first of a command's files that can't be read, and why. Streams and questions of `live` are
+// opened after its graph.
+fn first_failure<'a, R: Files>(rt: &R, words: &'a [String]) -> Option<(&'a str, io::Error)> {
     for name in [program_file(words), graph_file(words), stream_file(words)] {
         if let Some(name) = name
             && let Some(error) = failure(rt, name)
         {
-            return format!(in alloc; "bolt: {name:?} can't be read: {error}\n");
+            return Some((name, error));
         }
     }
-    String::from_str(
-        alloc,
-        "bolt: a file couldn't be opened, or not be read to its end.\n",
-    )
+    match option_failure(rt, words, "--stream=") {
+        Some(failed) => Some(failed),
+        None => option_failure(rt, words, "--ask="),
+    }
+}
+
+// Which of a command's files can't be read, and why.
+fn of_files<R: Files + AllocGlobal>(rt: &R, words: &[String]) -> Result<String, AllocError> {
+    let alloc = rt.alloc();
+    match first_failure(rt, words) {
+        Some((name, error)) => format!(in alloc; "bolt: {name:?} can't be read: {error}\n"),
+        None => String::from_str(
+            alloc,
+            "bolt: a file couldn't be opened, or not be read to its end.\n",
+        ),
+    }
 }
 
 // The text of a program's file, if it is short enough to be one.
@@ -108,6 +137,16 @@ fn of_refused_graph(alloc: Global, words: &[String]) -> Result<String, AllocErro
     )
 }
 
+// The place of the first wrong or missing word, if there is one.
+fn wrong_place(words: &[String]) -> Option<u32> {
+    let refusal = if is_live(words) {
+        read_live(words).err()?
+    } else {
+        read_words(words).err()?
+    };
+    Some(refusal.at)
+}
+
 /// What a person is told of a command that ended with a status: nothing of one that was done.
 pub fn told<R: Files + AllocGlobal>(
     rt: &R,
@@ -118,9 +157,9 @@ pub fn told<R: Files + AllocGlobal>(
 {
     let alloc = rt.alloc();
     match status {
-        2 => match read_words(words) {
-            Ok(_) => Ok(String::new(alloc)),
-            Err(refusal) => of_words(alloc, words, refusal.at),
+        2 => match wrong_place(words) {
+            Some(at) => of_words(alloc, words, at),
+            None => Ok(String::new(alloc)),
         },
         3 => of_refused_program(rt, words),
         4 => of_refused_graph(alloc, words),

@@ -94,3 +94,28 @@ fn a_file_that_is_not_there_is_named(rt: HostRuntime) -> Result<(), Fail> {
     assert!(rt; told(&rt, &words, 1)?.is_empty());
     Ok(())
 }
+
+#[test]
+fn a_stream_of_live_that_is_missing_is_told(rt: HostRuntime) -> Result<(), Fail> {
+    let words = strings(rt.alloc(), &["live", "rank", "g", "--ask=q"])?;
+    let text = told(&rt, &words, 2)?;
+    assert!(rt;
+        text.as_str().starts_with(
+            "bolt: a word is missing after \"--ask=q\".\n\n  bolt live PROGRAM GRAPH"
+        )
+    );
+    Ok(())
+}
+
+#[test]
+fn a_stream_of_live_that_is_not_there_is_named(rt: HostRuntime) -> Result<(), Fail> {
+    let alloc = rt.alloc();
+    fs::write(&rt, "a_graph_that_is_there", b"0 1\n")?;
+    let graph = "a_graph_that_is_there";
+    let words = strings(alloc, &["live", "rank", graph, "--stream=no_such_file"])?;
+    let text = told(&rt, &words, 5)?;
+    let wanted = "bolt: \"no_such_file\" can't be read: No such file or directory (os error 2)\n";
+    assert_eq!(rt; text.as_str(), wanted);
+    fs::remove_file(&rt, graph)?;
+    Ok(())
+}

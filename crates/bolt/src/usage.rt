@@ -8,6 +8,9 @@ while the edges of a graph come and go.
 
   bolt run PROGRAM GRAPH STREAM   the answer on a graph, and then what each
                                   batch of a stream of changes makes of it
+  bolt live PROGRAM GRAPH --stream=STREAM [--ask=QUESTIONS]
+                                  the batches of several streams as they come,
+                                  and replies to questions meanwhile
   bolt once PROGRAM GRAPH         the answer on a graph
   bolt check PROGRAM              whether a program is safe on every graph
   bolt make SEED N M B E graph    a graph for trying things out,
@@ -40,6 +43,25 @@ GRAPH is a file with lines \"U V\" and \"U V WEIGHT\", for edges from U to V, an
 \"attr U A\", for the attribute of a vertex.
 STREAM is a file with lines \"+ U V\", \"+ U V WEIGHT\", \"- U V\" and \"v U A\", and
 \"commit\" at the end of each batch.
+";
+
+/// The command `live`.
+pub const LIVE: &str = "  bolt live PROGRAM GRAPH --stream=STREAM [options]
+
+PROGRAM is rank, labels2, labels4, dist or wide, or file:NAME.
+GRAPH and STREAM are files as of bolt run. The batches of each stream are made
+in order; those of several streams come in between one another, as it happens.
+
+Options stand after all other words:
+  --stream=STREAM    a stream, 1 to 16 times
+  --ask=QUESTIONS    a file of questions, up to 16 times: lines \"value V\",
+                     \"total L\", \"atleast L X\" and \"prefix\", each answered
+                     while batches are made, with how many were accepted by then
+  --cut=K            the last iteration of a run that is kept, 1 to 64; if it
+                     isn't given, the program's last one or 10
+  --vertical=off     keeps iterations also where a vertex has come to rest
+  --workers=W        how many workers compute, 1 to 64; 1 if it isn't given
+Each of the last three is given at most once.
 ";
 
 /// The command `once`.
@@ -85,6 +107,7 @@ Options stand after all other words, each at most once:
 pub fn usage(command: &str) -> [&'static str; 2] {
     match command {
         "run" => [RUN, OPTIONS],
+        "live" => [LIVE, ""],
         "once" => [ONCE, ""],
         "check" => [CHECK, ""],
         "make" => [MAKE, OPTIONS],

@@ -1,38 +1,27 @@
 // The command.
-ghost use Rattle.std.specs.Prelude.{◌≡◌, ◌<◌, ◌^◌, Ok, IfOk, IfErr};
-ghost use Rattle.command_files.specs.Replied.{Gives};
-ghost use Rattle.command_files.specs.Stops.{BlamesSink, IsOfWriting};
+ghost use Rattle.std.specs.Prelude.{◌≡◌, ◌<◌, ◌^◌, Ok, IfOk, IsFalse, IsTrue};
 ghost use Rattle.batch_run.specs.Conducts.{Conducts, world};
 ghost use Rattle.cli_words.specs.Lines.{command_of};
 ghost use Rattle.cli_words.specs.Ranges.{IsCommandInRange};
 ghost use Rattle.cli_words.specs.Words.{texts};
-ghost use Rattle.command_course.specs.Still.{course, files_before, named, opened_with, words_reply};
+ghost use Rattle.command_course.specs.Still.{course, files_before, named, opened_with};
 ghost use Rattle.command_course.specs.Still.{IsDecided};
+ghost use Rattle.live_words.specs.Lines.{is_live as is_live_of};
 ghost use Rattle.bolt_cli.specs.Answers.{Answers};
+ghost use Rattle.bolt_cli.specs.AnswersLive.{AnswersLive};
 
-use batch_run::put_reply;
-use batch_steps::Reply;
+use crate::live::bolt_live;
+use crate::refuse::refuse_words;
 use bolt_base::Gate;
 use bolt_io::{Shelf, Sink};
-use cli_words::{Command, WordsRefusal, read_words};
+use cli_words::{Command, read_words};
 use command_files::Stop;
 use graph_commands::{once_command, run_command};
+use live_words::is_live;
 use reply_commands::{check_command, make_command};
-use report_text::words_refused;
 use std::alloc::Global;
 use std::sync::Wait;
 use std::thread::Threads;
-
-// Refuses the word at a place.
-fn refuse_words<K: Sink>(alloc: Global, refusal: WordsRefusal, out: &mut K) -> Result<u8, Stop>
-    ensures gives { Gives (words_reply refusal) (K.written out.old) (K.written out.new) result }
-    ensures status { IfOk result (λ s. s ≡ 2) }
-    ensures cause { BlamesSink result (K.faults out.old) (K.faults out.new) }
-    ensures writing { IfErr result IsOfWriting }
-{
-    let text = words_refused(alloc, refusal.at)?;
-    put_reply(&Reply { text, status: 2 }, out)
-}
 
 // Does what a command says.
 fn obey<S: Shelf, K: Sink, T: Gate + Sync, R: Threads + Sync>(
@@ -104,7 +93,8 @@ fn still<S: Shelf, K: Sink, T: Gate + Sync, R: Threads + Sync>(
 }
 
 /// Runs a command line that needs no waiting, and answers the status of its end. It starts threads,
-/// by the handle `rt`, where a command is to have several workers.
+/// by the handle `rt`, where a command is to have several workers. The word `live` is no command
+/// here.
 ///
 /// The words are those after the program's name. `shelf` has the files that they name, and `out`
 /// takes the text.
@@ -127,8 +117,8 @@ pub fn bolt_still<S: Shelf, K: Sink, T: Gate + Sync, R: Threads + Sync>(
     }
 }
 
-/// Runs any command line, and answers the status of its end. It may wait, by the handle `rt`, where
-/// a command needs that: so far none does, and each is passed to `bolt_still` whole.
+/// Runs any command line, and answers the status of its end. `live` waits, by the handle `rt`; each
+/// other command is passed to `bolt_still` whole.
 pub fn bolt<S: Shelf, K: Sink, T: Gate + Sync, R: Wait + Threads + Sync>(
     rt: &R,
     alloc: Global,
@@ -138,9 +128,16 @@ pub fn bolt<S: Shelf, K: Sink, T: Gate + Sync, R: Wait + Threads + Sync>(
     gate: &T,
 ) -> u8
     requires slots { S.opened shelf.old < 2 ^ 30 }
-    ensures { Answers (texts words.now)
+    ensures live { IsTrue (is_live_of (texts words.now)) → AnswersLive (texts words.now)
+        (world S.told S.opened S.faults K.written K.faults shelf.old out.old)
+        (world S.told S.opened S.faults K.written K.faults shelf.new out.new) result }
+    ensures still { IsFalse (is_live_of (texts words.now)) → Answers (texts words.now)
         (world S.told S.opened S.faults K.written K.faults shelf.old out.old)
         (world S.told S.opened S.faults K.written K.faults shelf.new out.new) result }
 {
-    bolt_still(rt, alloc, words, shelf, out, gate)
+    if is_live(words) {
+        bolt_live(rt, alloc, words, shelf, out, gate)
+    } else {
+        bolt_still(rt, alloc, words, shelf, out, gate)
+    }
 }

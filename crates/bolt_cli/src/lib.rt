@@ -2,5 +2,7 @@
 #![tactic(auto)]
 
 mod command;
+mod live;
+mod refuse;
 
 pub use command::{bolt, bolt_still};

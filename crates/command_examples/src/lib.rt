@@ -12,6 +12,10 @@ mod gates;
 #[cfg(test)]
 mod large;
 #[cfg(test)]
+mod live_gates;
+#[cfg(test)]
+mod live_rows;
+#[cfg(test)]
 mod rank_rows;
 #[cfg(test)]
 mod refused;

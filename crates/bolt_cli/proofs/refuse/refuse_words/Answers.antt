@@ -1,7 +1,7 @@
 use Rattle.std.proofs.Common.{ℕ, List, subst}
 use Rattle.batch_steps.specs.declared.reply.Reply.{Reply}
 use Rattle.command_files.specs.Replied.{Gives}
-use Rattle.bolt_cli.proofs.command.refuse_words.Goals as goal
+use Rattle.bolt_cli.proofs.refuse.refuse_words.Goals as goal
 
 pub returns-clause-gives : goal.returns-clause-gives
 returns-clause-gives g c =

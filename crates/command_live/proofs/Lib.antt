@@ -1,0 +1,2 @@
+pub mod LivedSteps
+pub mod ReplySteps
